@@ -3,8 +3,9 @@
 
 usage: between_files.py INPUT OUTPUT BLOCK..
 
-A BLOCK is `adder`, or `fir` with how many taps it has: a filter of floats, between converters, since GNU Radio has none of shorts to shorts. Threads, buffers and
-scheduling are GNU Radio's own. It prints the seconds from the start of the run to its end."""
+A BLOCK is `adder`, or `fir` with how many taps it has: a filter of floats, between converters, since GNU Radio has none
+of shorts to shorts. Threads, buffers and scheduling are GNU Radio's own. It prints the seconds from the start of the
+run to its end."""
 
 import sys
 import time

@@ -1,12 +1,14 @@
 #!/usr/bin/python3
-"""How many bits a second GNU Radio and Magbelu decode of a convolutional code with 64 states and two bits for each, from pairs of shorts in a file to bits in a file.
+"""How many bits a second GNU Radio and Magbelu decode of a convolutional code with 64 states and two bits for each,
+from pairs of shorts in a file to bits in a file.
 
 usage: decoders.py [--flow COMMAND] [--bits N]
 
-COMMAND runs a graph file, `./flow` if none is said; N is a million if none is said. The code is that of the polynomials 171 and 133, in blocks of 256 bits, and each bit
-of it came as a short from -100 to 100 with noise. GNU Radio's block is `trellis.viterbi_combined_sb`; the graph is what `flow-from-grc` makes of it, on one thread and
-on as many as the program takes. Each row is the best of three runs in turn, and the least nanoseconds that all processors work on a bit, both without what a start of
-GNU Radio or of the program costs. It ends with status 1 where the bits differ."""
+COMMAND runs a graph file, `./flow` if none is said; N is a million if none is said. The code is that of the polynomials
+171 and 133, in blocks of 256 bits, and each bit of it came as a short from -100 to 100 with noise. GNU Radio's block is
+`trellis.viterbi_combined_sb`; the graph is what `flow-from-grc` makes of it, on one thread and on as many as the
+program takes. Each row is the best of three runs in turn, and the least nanoseconds that all processors work on a bit,
+both without what a start of GNU Radio or of the program costs. It ends with status 1 where the bits differ."""
 
 import argparse
 import random

@@ -3,8 +3,8 @@
 
 usage: gnu_radio.py [SECONDS]
 
-Each row is the best of three runs of about so many seconds, 1 if none is given; a kept row is ten million items into a vector sink.
-Threads, buffers and scheduling are GNU Radio's own."""
+Each row is the best of three runs of about so many seconds, 1 if none is given; a kept row is ten million items into a
+vector sink. Threads, buffers and scheduling are GNU Radio's own."""
 
 import sys
 import time

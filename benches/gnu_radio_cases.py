@@ -3,8 +3,9 @@
 
 usage: gnu_radio_cases.py [--flow COMMAND] [--cases N] [--write FOLDER] [KIND..]
 
-COMMAND runs a graph file, `./flow` if none is said; N is 100 if none is said. With --write the first two cases of each kind are put into FOLDER as cases of
-tests/cases, with the items that GNU Radio gave. It ends with status 1 where an item differs."""
+COMMAND runs a graph file, `./flow` if none is said; N is 100 if none is said. With --write the first two cases of each
+kind are put into FOLDER as cases of tests/cases, with the items that GNU Radio gave. It ends with status 1 where an
+item differs."""
 
 import argparse
 import random
@@ -50,7 +51,8 @@ def items(draw: Draw, item: str, most: int = 300) -> List[int]:
 
 
 def rounds(draw: Draw, item: str, taken: int) -> List[int]:
-    """Items for whole rounds, each of so many: of a round that is not whole GNU Radio's block gives a part, and Magbelu's nothing."""
+    """Items for whole rounds, each of so many: of a round that is not whole GNU Radio's block gives a part, and
+    Magbelu's nothing."""
     tape: List[int] = []
     while len(tape) < taken:
         tape += items(draw, item)

@@ -1,12 +1,14 @@
 #!/usr/bin/python3
-"""How many million items a second a graph file passes as a block inside GNU Radio, beside GNU Radio's own blocks; what memory it takes; and how long a call from Python takes.
+"""How many million items a second a graph file passes as a block inside GNU Radio, beside GNU Radio's own blocks; what
+memory it takes; and how long a call from Python takes.
 
 usage: inside_gnu_radio.py [SECONDS] [MEMORY]
 
-Each row is the best of five runs of about so many seconds, 1 if none is given, of both in turn: a null source, a head, the blocks, a null sink, with GNU Radio's own
-threads and buffers; and the nanoseconds that all processors work on an item, the least of them. Behind them stands the greatest part of memory that this process held
-after ten million bytes through an adder, and after MEMORY of them, if that is given; and the least time in which a stream of Python is fed a thousand items, settles and is
-drained."""
+Each row is the best of five runs of about so many seconds, 1 if none is given, of both in turn: a null source, a head,
+the blocks, a null sink, with GNU Radio's own threads and buffers; and the nanoseconds that all processors work on an
+item, the least of them. Behind them stands the greatest part of memory that this process held after ten million bytes
+through an adder, and after MEMORY of them, if that is given; and the least time in which a stream of Python is fed a
+thousand items, settles and is drained."""
 
 import os
 import resource

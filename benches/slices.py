@@ -1,11 +1,13 @@
 #!/usr/bin/env python3
-"""How long runs between files take: on one thread, with helpers, in slices on threads, in slices as processes, and by GNU Radio.
+"""How long runs between files take: on one thread, with helpers, in slices on threads, in slices as processes, and by
+GNU Radio.
 
 usage: slices.py FLOW [--rounds N] [--millions N] [--folder FOLDER]
 
-FLOW is the program. Each row is a graph over so many million shorts, 100 if none is said. In a round each way is run once, in turn, and the least of the rounds
-counts, 3 if none is said. The files stand in a folder of /dev/shm, which is gone afterwards. A way whose output differs from that of one thread ends the script. Beside
-the seconds stand the processor seconds of all threads and processes. Where GNU Radio is not installed its column is empty."""
+FLOW is the program. Each row is a graph over so many million shorts, 100 if none is said. In a round each way is run
+once, in turn, and the least of the rounds counts, 3 if none is said. The files stand in a folder of /dev/shm, which is
+gone afterwards. A way whose output differs from that of one thread ends the script. Beside the seconds stand the
+processor seconds of all threads and processes. Where GNU Radio is not installed its column is empty."""
 
 import argparse
 import filecmp
@@ -25,7 +27,8 @@ SHIFT = 8
 
 
 def chain(*kinds):
-    """A graph file: a source, blocks of these kinds one behind the other, each with its parameters as text, and a sink."""
+    """A graph file: a source, blocks of these kinds one behind the other, each with its parameters as text, and a
+    sink."""
     names = ["in"] + ["b%d" % at for at in range(len(kinds))] + ["out"]
     text = BLOCK % ("in", "vector_source")
     for name, (kind, parameters) in zip(names[1:], kinds):
@@ -114,7 +117,8 @@ class Row:
 
 
 def gnu_radio(row):
-    """What the same blocks take in GNU Radio with its threads, between the same files; none where it has no block for one of them, or is not installed."""
+    """What the same blocks take in GNU Radio with its threads, between the same files; none where it has no block for
+    one of them, or is not installed."""
     script = pathlib.Path(__file__).with_name("between_files.py")
     words = ["/usr/bin/python3", str(script), "input", "gnu_radio"]
     if row.has_tags:

@@ -1,6 +1,7 @@
 #!/usr/bin/env python3
-"""crates_picture.py [--text]: draws crates.txt by Graphviz's `dot` as docs/contribute/crates.svg: the crates in their layers, and which uses which, but where another that it uses
-does so too. The lowest layer has what all others mean, and nothing points at it. With --text it prints what `dot` is given."""
+"""crates_picture.py [--text]: draws crates.txt by Graphviz's `dot` as docs/contribute/crates.svg: the crates in their
+layers, and which uses which, but where another that it uses does so too. The lowest layer has what all others mean, and
+nothing points at it. With --text it prints what `dot` is given."""
 
 import subprocess
 import sys
@@ -61,7 +62,8 @@ def reached(crate: str, uses: Dict[str, Set[str]], seen: Set[str]) -> Set[str]:
 
 
 def shown(layers: List[Layer], uses: Dict[str, Set[str]]) -> Iterator[str]:
-    """The lines of what `dot` is given. A bar that is not seen stands between two layers, so that each lies above the one before."""
+    """The lines of what `dot` is given. A bar that is not seen stands between two layers, so that each lies above the
+    one before."""
     yield "digraph crates {"
     yield '  rankdir=BT; newrank=true; nodesep=0.15; ranksep=0.28; fontname="sans-serif"; fontsize=13;'
     yield '  node [shape=box, style=filled, fillcolor=white, fontname="sans-serif", fontsize=12, height=0.3, margin="0.08,0.03"];'

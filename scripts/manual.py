@@ -1,5 +1,6 @@
 #!/usr/bin/env python3
-"""manual.py FOLDER: makes the manual in this folder, a site of the repository's pages and of its public items, by mkdocs. Neither that nor who reads it needs a network."""
+"""manual.py FOLDER: makes the manual in this folder, a site of the repository's pages and of its public items, by
+mkdocs. Neither that nor who reads it needs a network."""
 
 import json
 import shutil

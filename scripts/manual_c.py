@@ -1,4 +1,5 @@
-"""Makes the references of C and C++ from the headers of c/: what stands under a comment, up to the next one, is one matter, and has the comment's text."""
+"""Makes the references of C and C++ from the headers of c/: what stands under a comment, up to the next one, is one
+matter, and has the comment's text."""
 
 import re
 from dataclasses import dataclass, field
@@ -17,7 +18,8 @@ MANY = 8
 
 @dataclass
 class Declaration:
-    """What a header declares: its name, how it is written without its body, and of a class the lines between its brackets."""
+    """What a header declares: its name, how it is written without its body, and of a class the lines between its
+    brackets."""
 
     name: str
     text: str
@@ -97,7 +99,8 @@ def matters(lines: List[str], indent: str = "") -> Iterator[Matter]:
 
 
 def markdown(comment: List[str]) -> str:
-    """A comment as a page has it: lines that are set in are shown as they are, and one that begins with a name and two spaces is one of a list."""
+    """A comment as a page has it: lines that are set in are shown as they are, and one that begins with a name and two
+    spaces is one of a list."""
     shown: List[str] = []
     for part in "\n".join(comment).split("\n\n"):
         lines = part.splitlines()
@@ -115,7 +118,8 @@ def code(text: str, language: str) -> str:
 
 
 def sections(matter: Matter, owner: str, language: str) -> Iterator[str]:
-    """What the page says of a matter: each declaration under a heading, the comment under the first. Macros stand with what is above them."""
+    """What the page says of a matter: each declaration under a heading, the comment under the first. Macros stand with
+    what is above them."""
     level = "###" if owner else "##"
     heads = [it for it in matter.declarations if not it.text.startswith("#define")] or matter.declarations[:1]
     if len(heads) > MANY and heads[0].is_exported:

@@ -1,5 +1,5 @@
-"""Makes a page of all crates, layer by layer, from crates.txt and the head of each `lib.rt`, and a page of the laws, from
-the doc comments of each `laws.rt`."""
+"""Makes a page of all crates, layer by layer, from crates.txt and the head of each `lib.rt`, and a page of the laws,
+from the doc comments of each `laws.rt`."""
 
 import re
 from typing import Iterator, List, Tuple

@@ -1,4 +1,5 @@
-"""Makes a page with a heading for each option of each command of `flow`, which the search finds by its name, from the texts of `--help` that tests hold against the program."""
+"""Makes a page with a heading for each option of each command of `flow`, which the search finds by its name, from the
+texts of `--help` that tests hold against the program."""
 
 import re
 from typing import List

@@ -1,4 +1,5 @@
-"""Puts pages of the repository, and what they link to, where mkdocs reads them: each at its own path, so that links between pages stay as they are."""
+"""Puts pages of the repository, and what they link to, where mkdocs reads them: each at its own path, so that links
+between pages stay as they are."""
 
 import html
 import os
@@ -102,7 +103,8 @@ class Stage:
         file.write_text(text)
 
     def linked(self, page: Path, text: str) -> str:
-        """The text of a page with its links to files and folders led to where these stand, and with lists in lists as mkdocs reads them, four spaces further in."""
+        """The text of a page with its links to files and folders led to where these stand, and with lists in lists as
+        mkdocs reads them, four spaces further in."""
 
         def led(found: "re.Match[str]") -> str:
             target = found.group(2)

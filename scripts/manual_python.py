@@ -1,5 +1,5 @@
-"""Makes the reference of the package `magbelu` for Python: a page for each public module, with the docstring and the signature of each name of its `__all__`. It reads the
-files and imports none."""
+"""Makes the reference of the package `magbelu` for Python: a page for each public module, with the docstring and the
+signature of each name of its `__all__`. It reads the files and imports none."""
 
 import ast
 import inspect
@@ -53,7 +53,8 @@ class File:
 
 
 def found(files: Dict[str, File], file: str, name: str) -> Optional[Tuple[str, ast.stmt]]:
-    """The file that declares what a name means in a file, and the declaration; nothing for what is not of the package."""
+    """The file that declares what a name means in a file, and the declaration; nothing for what is not of the
+    package."""
     here = files.setdefault(file, File(file))
     if name in here.own:
         return file, here.own[name]

@@ -1,5 +1,5 @@
-"""Makes the reference of the crate `magbelu`: a page for each of its modules, with each public item's doc comment, signature and contract. Names in these lead to what
-they mean."""
+"""Makes the reference of the crate `magbelu`: a page for each of its modules, with each public item's doc comment,
+signature and contract. Names in these lead to what they mean."""
 
 import html
 import os
@@ -62,7 +62,8 @@ class Pages:
         return {word: self.lead(it[0].path, it[1]) for word, it in found.items() if it}
 
     def of_clauses(self, contract: Contract, members: Dict[str, str]) -> Dict[str, str]:
-        """Where the names of clauses lead, those of a trait's members as is said; those behind one that nothing in scope explains lead nowhere."""
+        """Where the names of clauses lead, those of a trait's members as is said; those behind one that nothing in
+        scope explains lead nowhere."""
         leads = dict(members)
         try:
             for token, found in self.names.in_clauses(contract, members):
@@ -106,7 +107,8 @@ class Pages:
         return re.sub(r"\[`([^`\]]+)`\](?:\(([\w:]+)\))?", led, "\n".join(docs)) + "\n"
 
     def declared(self, item: Item) -> str:
-        """A type as it is declared; of a trait the head, since its members stand below, and of a constant or a name its line."""
+        """A type as it is declared; of a trait the head, since its members stand below, and of a constant or a name its
+        line."""
         file, line = item.file, item.file.lines[item.line]
         if item.name not in file.types or line.startswith("pub type"):
             lines = block_at(file.lines, item.line)

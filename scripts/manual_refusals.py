@@ -1,4 +1,5 @@
-"""Makes a page with a heading for each refusal, which the search finds by its number and its name, from the table of docs/user/REFUSALS.md."""
+"""Makes a page with a heading for each refusal, which the search finds by its number and its name, from the table of
+docs/user/REFUSALS.md."""
 
 import re
 from typing import Dict, List

@@ -1,5 +1,6 @@
 #!/usr/bin/env python3
-"""Makes the pages out/promised/*.md and the counts of docs/proof/BELIEVED.md from the sources; with --check it only says whether the counts are what it makes."""
+"""Makes the pages out/promised/*.md and the counts of docs/proof/BELIEVED.md from the sources; with --check it only
+says whether the counts are what it makes."""
 
 import re
 import sys
@@ -146,7 +147,8 @@ class Names:
     def of_clause(
         self, file: SourceFile, lines: Tuple[str, ...], scope: Scope, bounds: Dict[str, List[str]], own: Set[str]
     ) -> Iterator[Found]:
-        """What clauses name, or what is written in a ghost member. `own` has the parameters and fields that they may speak of."""
+        """What clauses name, or what is written in a ghost member. `own` has the parameters and fields that they may
+        speak of."""
         bound = bound_in(lines, scope) | own
         for token in mentioned(tokens_of(lines)):
             head, *members = token.split(".")
@@ -170,7 +172,8 @@ class Names:
         return Library("of types", f"{parameter}.{name}")
 
     def in_clauses(self, contract: Contract, members: Iterable[str] = ()) -> Iterator[Tuple[str, Found]]:
-        """The names in the clauses of a contract, each with what it means; of a trait's function with the members of the trait."""
+        """The names in the clauses of a contract, each with what it means; of a trait's function with the members of
+        the trait."""
         file = self.sources.at(contract.path)
         heads = "\n".join([contract.owner, *contract.signature])
         clauses = tuple(re.sub(r"^\s+(requires|ensures)( \w+)? ", "    ", line) for line in contract.clauses)
@@ -199,7 +202,8 @@ class Names:
 
 @dataclass
 class Closure:
-    """The definitions and types that contracts rest on, by how many steps lead to them, and the names of the library."""
+    """The definitions and types that contracts rest on, by how many steps lead to them, and the names of the
+    library."""
 
     steps: List[List[Entry]]
     library: List[Library]

@@ -1,4 +1,5 @@
-"""The public items of the crate `magbelu`, module by module: which there are, which file declares each, and what belongs to it."""
+"""The public items of the crate `magbelu`, module by module: which there are, which file declares each, and what
+belongs to it."""
 
 import re
 from dataclasses import dataclass, field
@@ -51,7 +52,8 @@ def plain(docs: Iterable[str]) -> List[str]:
 
 
 class Items:
-    """The modules of the crate, and where each item stands: on the page of the first module that has it, and that does more than bring others' items."""
+    """The modules of the crate, and where each item stands: on the page of the first module that has it, and that does
+    more than bring others' items."""
 
     def __init__(self, sources: Sources) -> None:
         self.sources = sources

@@ -190,7 +190,8 @@ class SourceFile:
         return None
 
     def head_at(self, at: int) -> List[str]:
-        """The signature and the clauses of the function that begins at this line, without what opens its body or ends it."""
+        """The signature and the clauses of the function that begins at this line, without what opens its body or ends
+        it."""
         indent = self.lines[at][: -len(self.lines[at].lstrip())]
         for end in range(at, len(self.lines)):
             line = self.lines[end]
@@ -269,7 +270,8 @@ class Sources:
         return next(file for file in self.files[path.split("/")[1]] if file.path == path)
 
     def find(self, crate: str, name: str, module: str = "") -> Optional[SourceFile]:
-        """The file of a crate that declares this type, that of its module first, or the one that a `pub use` of the crate leads to."""
+        """The file of a crate that declares this type, that of its module first, or the one that a `pub use` of the
+        crate leads to."""
         files = self.files.get(crate, [])
         own = [file for file in files if name in file.types]
         own.sort(key=lambda file: Path(file.path).stem != module)

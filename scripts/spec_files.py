@@ -101,7 +101,8 @@ class SpecFile:
         self.read()
 
     def read(self) -> None:
-        """Cuts the lines into definitions. That at the head of the file has the file's comment where it has none of its own."""
+        """Cuts the lines into definitions. That at the head of the file has the file's comment where it has none of its
+        own."""
         comment: List[str] = []
         module: List[str] = []
         start = 0
@@ -157,7 +158,8 @@ def is_name(token: str) -> bool:
 
 
 def is_variant(token: str, scope: Scope) -> bool:
-    """Whether a name in a pattern is one in scope and no variable: it begins with a capital, or the library has it so."""
+    """Whether a name in a pattern is one in scope and no variable: it begins with a capital, or the library has it
+    so."""
     path = scope.names.get(token, [])
     return bool(path) and (token[0].isupper() or (token in SMALL_VARIANTS and not (CRATES / path[1]).is_dir()))
 
@@ -223,7 +225,8 @@ def bound_in(lines: Tuple[str, ...], scope: Scope) -> Set[str]:
 
 
 def mentioned(tokens: List[str]) -> Iterator[str]:
-    """The tokens that may name something: no fields of records, no projections, no signs, and `then` only where it is none of an `if`."""
+    """The tokens that may name something: no fields of records, no projections, no signs, and `then` only where it is
+    none of an `if`."""
     conditions: List[int] = []
     depth = 0
     for at, token in enumerate(tokens):

@@ -1,5 +1,6 @@
 #!/usr/bin/env python3
-"""trace_picture.py TRACE [FIRST [LAST]]: draws a trace of `flow run --trace` as SVG: a row for each block, its turns dark, its waits pale, from FIRST to LAST microseconds."""
+"""trace_picture.py TRACE [FIRST [LAST]]: draws a trace of `flow run --trace` as SVG: a row for each block, its turns
+dark, its waits pale, from FIRST to LAST microseconds."""
 
 import json
 import math

@@ -1,7 +1,8 @@
 #!/usr/bin/env python3
-"""drawn.py TEXT PICTURE: tells where a picture is not that of a graph: the nodes with their words, the connections with ports, words and colour, and the groups with their
-words and nodes, of the text beside those of the SVG that `dot` made of it. The text is that of `flow draw` or of scripts/crates_picture.py. Where they stand differs from
-one version of Graphviz to another, and is not looked at, but for which nodes are in a group."""
+"""drawn.py TEXT PICTURE: tells where a picture is not that of a graph: the nodes with their words, the connections with
+ports, words and colour, and the groups with their words and nodes, of the text beside those of the SVG that `dot` made
+of it. The text is that of `flow draw` or of scripts/crates_picture.py. Where they stand differs from one version of
+Graphviz to another, and is not looked at, but for which nodes are in a group."""
 
 import re
 import sys
@@ -10,7 +11,8 @@ from typing import Dict, List, Tuple
 
 SVG = "{http://www.w3.org/2000/svg}"
 
-# By the title of each node, each connection and each group its words, those of a group with its nodes behind them, and the colour of the line.
+# By the title of each node, each connection and each group its words, those of a group with its nodes behind them, and
+# the colour of the line.
 Parts = Dict[str, Tuple[List[str], str]]
 
 

@@ -1,6 +1,6 @@
 #!/usr/bin/env python3
-"""links.py FOLDER [SUFFIX..]: tells each relative link of the pages below a folder, those with these suffixes or `.md`, that leads to no file, or to no heading of it; and
-what pages of a site load from elsewhere."""
+"""links.py FOLDER [SUFFIX..]: tells each relative link of the pages below a folder, those with these suffixes or `.md`,
+that leads to no file, or to no heading of it; and what pages of a site load from elsewhere."""
 
 import re
 import sys

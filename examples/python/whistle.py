@@ -1,6 +1,6 @@
 #!/usr/bin/env python3
-"""A whistle that a filter takes out of a recording, seen in a notebook: each `# %%` begins a cell. It is called at the top of the checkout, or with the package
-for Python installed, and writes whistle.png."""
+"""A whistle that a filter takes out of a recording, seen in a notebook: each `# %%` begins a cell. It is called at the
+top of the checkout, or with the package for Python installed, and writes whistle.png."""
 
 # %% The graph: a recording through the filter of examples/signal, and as it came.
 import pathlib

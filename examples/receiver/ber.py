@@ -1,6 +1,7 @@
 #!/usr/bin/env python3
-"""ber.py [DB..]: counts the wrong bits of receiver.toml for these Es/N0 in decibels, by runs of `flow`, and prints a line `DB BITS WRONG DECODED WRONG` for each: how many bits
-came, how many of them were wrong, how many bits of text were decoded, and how many of these were wrong.
+"""ber.py [DB..]: counts the wrong bits of receiver.toml for these Es/N0 in decibels, by runs of `flow`, and prints a
+line `DB BITS WRONG DECODED WRONG` for each: how many bits came, how many of them were wrong, how many bits of text were
+decoded, and how many of these were wrong.
 
 The lines of text are bytes of chance. ber.txt has what comes for 2 to 13 dB. It needs numpy.
 """
@@ -19,7 +20,8 @@ HERE = Path(__file__).resolve().parent
 RATIOS = [2, 3, 4, 4.5, 5, 5.5, 6, 6.5, 7, 8, 9, 10, 11, 12, 13]
 # A line of text with its line feed, and one that was received, which has a mark too.
 LINE, SHOWN = 28, 29
-# At which item of its output the first bit behind the preamble stands: 30 are of the noise before it, 64 of the access code, and the rest of the filter and the sum.
+# At which item of its output the first bit behind the preamble stands: 30 are of the noise before it, 64 of the access
+# code, and the rest of the filter and the sum.
 FIRST = 96 + len(PREAMBLE)
 
 
@@ -35,7 +37,8 @@ def recorded(bits: numpy.ndarray, ratio: float) -> numpy.ndarray:
 
 
 def counts(ratio: float, sent: Dict[str, numpy.ndarray], received: Dict[str, numpy.ndarray]) -> str:
-    """The line for this Es/N0, of what was sent, its text and its bits, and what was received, bits with marks and lines."""
+    """The line for this Es/N0, of what was sent, its text and its bits, and what was received, bits with marks and
+    lines."""
     bits = received["bits"][FIRST : FIRST + len(sent["bits"])] & 1
     wanted = sent["text"].reshape(-1, LINE)[:, :-1]
     lines = received["lines"].reshape(-1, SHOWN)[: len(wanted), 1:-1]

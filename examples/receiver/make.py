@@ -1,6 +1,6 @@
 #!/usr/bin/env python3
-"""make.py BITS FILE [DB]: makes a recording of these bits, a byte each, behind a preamble, as rtl_sdr writes one, with this Es/N0 in decibels, or 6: what a bit that is sent
-has of energy, over N0.
+"""make.py BITS FILE [DB]: makes a recording of these bits, a byte each, behind a preamble, as rtl_sdr writes one, with
+this Es/N0 in decibels, or 6: what a bit that is sent has of energy, over N0.
 
 An unsigned byte for I, one for Q, and so on; 128 is 0. It needs numpy. The same words make the same file.
 """
@@ -14,7 +14,8 @@ try:
 except ImportError:
     sys.exit("make.py: it needs numpy, as Debian's python3-numpy has it for /usr/bin/python3")
 
-# Samples a second, samples a bit, and in Hz how far a 1 is above the carrier, a 0 below it, and the carrier above the middle of the band.
+# Samples a second, samples a bit, and in Hz how far a 1 is above the carrier, a 0 below it, and the carrier above the
+# middle of the band.
 RATE, SAMPLES, DEVIATION, OFFSET = 256_000, 32, 4_000, 1_000
 # Alternating bits before the first frame, in which the receiver finds out how far off its frequency is.
 PREAMBLE = [1, 0] * 64
@@ -22,7 +23,8 @@ PREAMBLE = [1, 0] * 64
 BEFORE, BEHIND = 990, 4_096
 # The root mean square of what I and Q have together, in steps of their bytes, which the gain of a receiver sets.
 LEVEL = 40
-# Es/N0 of the recording that docs/user/TUTORIAL.md shows, and what its noise is made of: one of twelve frames stays wrong, and of others fewer.
+# Es/N0 of the recording that docs/user/TUTORIAL.md shows, and what its noise is made of: one of twelve frames stays
+# wrong, and of others fewer.
 RATIO, SEED = 6, 4
 
 

@@ -1,6 +1,7 @@
 #!/usr/bin/env python3
-"""plots.py FOLDER: draws what each step of this example gives, of the files that docs/user/TUTORIAL.md makes in the current folder, and the wrong bits of ber.txt
-beside what theory.py calculates, as SVG files in FOLDER. It needs numpy."""
+"""plots.py FOLDER: draws what each step of this example gives, of the files that docs/user/TUTORIAL.md makes in the
+current folder, and the wrong bits of ber.txt beside what theory.py calculates, as SVG files in FOLDER. It needs
+numpy."""
 
 import sys
 from pathlib import Path

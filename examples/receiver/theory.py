@@ -1,4 +1,5 @@
-"""How often a bit is wrong, by calculation: for the ideal receiver of two tones, and for the one of this example, before its decoder and behind it. It needs numpy."""
+"""How often a bit is wrong, by calculation: for the ideal receiver of two tones, and for the one of this example,
+before its decoder and behind it. It needs numpy."""
 
 import tomllib
 from pathlib import Path
@@ -38,7 +39,8 @@ def blocks_of(graph: Path) -> Dict[str, dict]:
 
 
 def ideal(ratio: float) -> float:
-    """Of the ideal receiver that does not know the phase, for two tones that are a bit rate apart: half of exp(-Es / 2 N0)."""
+    """Of the ideal receiver that does not know the phase, for two tones that are a bit rate apart: half of exp(-Es / 2
+    N0)."""
     return 0.5 * numpy.exp(-(10 ** (ratio / 10)) / 2)
 
 
@@ -62,7 +64,8 @@ def sum_of(graph: Path) -> Sum:
 
 
 def level_of(parts: Sum, ratio: float, spread: bool) -> Level:
-    """The level of a bit for this Es/N0, with the carrier where it should be; with `spread`, where a mean over 128 bits of chance puts it."""
+    """The level of a bit for this Es/N0, with the carrier where it should be; with `spread`, where a mean over 128 bits
+    of chance puts it."""
     noise = parts.noise * SAMPLES / 10 ** (ratio / 10)
     own = parts.signs[:, NEAR // 2]
     levels = numpy.einsum("pa,ab,pb->p", parts.means.conj(), parts.form, parts.means).real
@@ -84,7 +87,8 @@ def level_of(parts: Sum, ratio: float, spread: bool) -> Level:
 
 
 def below(level: Level, count: int) -> float:
-    """How often the sum of so many independent levels is on the wrong side, by its transform, along a line on which that falls fast."""
+    """How often the sum of so many independent levels is on the wrong side, by its transform, along a line on which
+    that falls fast."""
     reals = numpy.linspace(0.001, 0.999, 400) * level.most
     real = reals[numpy.argmin(count * level.logarithm(reals + 0j).real - numpy.log(reals))]
     way = numpy.linspace(0, 0.999, 500)
@@ -100,8 +104,9 @@ def wrong(parts: Sum, ratio: float, spread: bool) -> float:
 
 
 def wrong_bits(graph: Path) -> List[int]:
-    """Of the code that a graph file decodes, for each distance from 0 to DISTANCE: on all paths that leave state 0 once and come back, and differ in so many bits from the one
-    that stays there, how many symbols are 1. From 10 on these are 36, 0, 211, 0, 1404, as in tables of the code of 64 states with the polynomials 171 and 133."""
+    """Of the code that a graph file decodes, for each distance from 0 to DISTANCE: on all paths that leave state 0 once
+    and come back, and differ in so many bits from the one that stays there, how many symbols are 1. From 10 on these
+    are 36, 0, 211, 0, 1404, as in tables of the code of 64 states with the polynomials 171 and 133."""
     decoder = blocks_of(graph)["decode"]
     rows = [(at // 2, at % 2, state, output.bit_count()) for at, (state, output) in enumerate(zip(decoder["next"], decoder["output"]))]
     # for each state and distance how many paths there are, and how many ones these have
@@ -122,7 +127,8 @@ def wrong_bits(graph: Path) -> List[int]:
 
 
 def bound(parts: Sum, ratio: float, bits: List[int]) -> float:
-    """How often a decoded bit is wrong, at most, for this Es/N0: the union bound of textbooks (J. G. Proakis, Digital Communications, on soft decoding of convolutional codes). A
-    path that differs in so many bits is taken where the sum of the levels of these is on the wrong side, and the order of the bits makes these levels independent."""
+    """How often a decoded bit is wrong, at most, for this Es/N0: the union bound of textbooks (J. G. Proakis, Digital
+    Communications, on soft decoding of convolutional codes). A path that differs in so many bits is taken where the sum
+    of the levels of these is on the wrong side, and the order of the bits makes these levels independent."""
     level = level_of(parts, ratio, True)
     return sum(count * below(level, distance) for distance, count in enumerate(bits) if count)

@@ -46,7 +46,8 @@ def _packing(settings: Settings, kind: str) -> Tuple[ItemType, Part, int]:
 
 
 def _node(settings: Settings, item: ItemType, part: Part, taken: int, given: int) -> Node:
-    """A block that takes so many bits of an item and gives so many. Where neither number divides the other, a round has several items on both sides."""
+    """A block that takes so many bits of an item and gives so many. Where neither number divides the other, a round has
+    several items on both sides."""
     if taken % given and given % taken:
         settings.note("gives whole rounds only; GNU Radio's also gives the full items of the last")
     return Node(settings.block, [item], [item], [part])

@@ -1,4 +1,5 @@
-"""Encoders and decoders of mu-law and A-law, whose bytes are floats of one sign bit, three bits of exponent and four of mantissa."""
+"""Encoders and decoders of mu-law and A-law, whose bytes are floats of one sign bit, three bits of exponent and four of
+mantissa."""
 
 from __future__ import annotations
 

@@ -23,7 +23,8 @@ class Text:
 
 @dataclass(frozen=True)
 class DrawnBlock:
-    """A block with the parameters that the file gives it, unless it is disabled. `id` is GNU Radio's name of its type."""
+    """A block with the parameters that the file gives it, unless it is disabled. `id` is GNU Radio's name of its
+    type."""
 
     name: str
     id: str
@@ -53,8 +54,8 @@ class Drawing:
 
 
 def read_drawing(data: bytes, report: Report) -> Drawing:
-    """The drawing that the bytes of a .grc file hold. Faults of single blocks and connections are reported, and these left out; Refused is raised where the
-    file as a whole is none."""
+    """The drawing that the bytes of a .grc file hold. Faults of single blocks and connections are reported, and these
+    left out; Refused is raised where the file as a whole is none."""
     top = _mapping(_document(data), "the file", ("options", "blocks", "connections", "metadata"))
     _test_format(top)
     options: Mapping[str, Text] = {}
@@ -139,7 +140,8 @@ def _line(node: yaml.Node) -> int:
 
 
 def _mapping(node: yaml.Node, what: str, known: Sequence[str] = ()) -> Dict[str, yaml.Node]:
-    """The values of a mapping by their keys, none of which stands twice, and which are all known where some are named."""
+    """The values of a mapping by their keys, none of which stands twice, and which are all known where some are
+    named."""
     if not isinstance(node, yaml.MappingNode):
         raise Refused(_line(node), Code.WRONG_TYPE, "%s: a mapping of keys to values has to stand here" % what)
     values: Dict[str, yaml.Node] = {}
@@ -164,7 +166,8 @@ def _sequence(top: Mapping[str, yaml.Node], key: str) -> Sequence[yaml.Node]:
 
 
 def _text(node: yaml.Node, what: str) -> Text:
-    """The text that Companion makes of a value: Python's own of what YAML takes it for, be it quoted or not, or a list of such values."""
+    """The text that Companion makes of a value: Python's own of what YAML takes it for, be it quoted or not, or a list
+    of such values."""
     nodes = [node]
     if isinstance(node, yaml.SequenceNode):
         nodes = node.value

@@ -1,4 +1,5 @@
-"""What the table of kinds is made of: an entry says what a block of GNU Radio has, and makes of it what stands for it."""
+"""What the table of kinds is made of: an entry says what a block of GNU Radio has, and makes of it what stands for
+it."""
 
 from __future__ import annotations
 
@@ -20,7 +21,8 @@ MOST_PORTS = limit("interleave", "ports")
 
 @dataclass(frozen=True)
 class Entry:
-    """A block of GNU Radio. `defaults` has the parameters that it may have, with Companion's texts for those that are not given."""
+    """A block of GNU Radio. `defaults` has the parameters that it may have, with Companion's texts for those that are
+    not given."""
 
     defaults: Mapping[str, str]
     make: Callable[[Settings], Node]
@@ -94,9 +96,10 @@ def block(
     first_count: str = "2",
     note: Callable[[Mapping[str, Setting]], str] = lambda _: "",
 ) -> Entry:
-    """A block for which a kind of its own stands, with items of one of these types; where that is bytes alone it has no parameter for it. Its parameters
-    `ones` have to be 1, and `ignored` say nothing of items. `first_type` is Companion's default type, and `first_count` its
-    default of how many ports; `note` tells, of the settings, how GNU Radio's block differs."""
+    """A block for which a kind of its own stands, with items of one of these types; where that is bytes alone it has no
+    parameter for it. Its parameters `ones` have to be 1, and `ignored` say nothing of items. `first_type` is
+    Companion's default type, and `first_count` its default of how many ports; `note` tells, of the settings, how GNU
+    Radio's block differs."""
     is_typed = types is not BYTES
     defaults = {it.key_there: it.default for it in parameters}
     defaults.update({it.key_there: it.wanted for it in choices})

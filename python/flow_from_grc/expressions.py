@@ -57,7 +57,8 @@ def names_of(tree: ast.expr) -> List[str]:
 
 
 def value_of(tree: ast.expr, name: Callable[[str], Any]) -> Any:
-    """The value of an expression: a number, a text, a list, a tuple or a range, a truth value, None, a Symbol or a Long, or what `name` gives for a name."""
+    """The value of an expression: a number, a text, a list, a tuple or a range, a truth value, None, a Symbol or a
+    Long, or what `name` gives for a name."""
     try:
         return _Evaluation(name).value(tree)
     except RecursionError:

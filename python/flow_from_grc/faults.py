@@ -50,7 +50,8 @@ class AlreadyReported(Exception):
 
 
 def shown(text: str) -> str:
-    """Text of a drawing as it may stand in one line of a report: in part where it is long, control characters as their numbers."""
+    """Text of a drawing as it may stand in one line of a report: in part where it is long, control characters as their
+    numbers."""
     if len(text) > _MOST_SHOWN:
         text = text[:_MOST_SHOWN] + "..."
     return "".join(it if it.isprintable() else "\\u{%x}" % ord(it) for it in text)

@@ -1,4 +1,5 @@
-"""Filters of shorts. Companion has none: it draws a filter of floats between a Short To Float and a Float To Short, whose scale is the filter's shift here."""
+"""Filters of shorts. Companion has none: it draws a filter of floats between a Short To Float and a Float To Short,
+whose scale is the filter's shift here."""
 
 from __future__ import annotations
 

@@ -1,4 +1,5 @@
-"""Blocks that put the items of each frame into another order: interleavers, and those that take items out of a frame or put some in."""
+"""Blocks that put the items of each frame into another order: interleavers, and those that take items out of a frame or
+put some in."""
 
 from __future__ import annotations
 
@@ -59,7 +60,8 @@ def permutation(settings: Settings) -> Node:
 
 
 def patterned_interleaver(settings: Settings) -> Node:
-    """The items of a frame come from the inputs that the pattern names: as many of each input in turn, and then in its order."""
+    """The items of a frame come from the inputs that the pattern names: as many of each input in turn, and then in its
+    order."""
     item = settings.item_type(ANY)
     settings.ones("vlen")
     pattern = settings.wholes("pattern", 0, MOST_PORTS - 1, _MOST_FRAME)
@@ -96,7 +98,8 @@ def depuncture(settings: Settings) -> Node:
 
 
 def _pattern(settings: Settings) -> List[bool]:
-    """Which items of a frame stay: those at the bits of the pattern, from the highest of its size on, so many places later."""
+    """Which items of a frame stay: those at the bits of the pattern, from the highest of its size on, so many places
+    later."""
     size = settings.whole("puncsize", 1, _MOST_PUNCTURED)
     bits = settings.whole("puncpat", 1, (1 << size) - 1)
     delay = max(settings.whole("delay", ItemType.INT.least, ItemType.INT.most), 0)
@@ -104,7 +107,8 @@ def _pattern(settings: Settings) -> List[bool]:
 
 
 def _in_turn(sources: Sequence[int], places: Dict[int, int]) -> List[int]:
-    """The order in which the items of a frame come that stand source by source, from these places on, where each is the next of one of the sources."""
+    """The order in which the items of a frame come that stand source by source, from these places on, where each is the
+    next of one of the sources."""
     order, places = [], dict(places)
     for source in sources:
         order.append(places[source])

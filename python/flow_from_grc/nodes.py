@@ -11,7 +11,8 @@ from .graph import Block, Connection, Feed, ItemType, Setting
 
 
 class Floats(enum.Enum):
-    """Streams of floats that hold whole numbers, between blocks that convert shorts and filters of floats, and between metrics and what decodes them."""
+    """Streams of floats that hold whole numbers, between blocks that convert shorts and filters of floats, and between
+    metrics and what decodes them."""
 
     SHORTS = "float, of Short To Float"
     SUMS = "float, of a filter"
@@ -43,8 +44,9 @@ class End:
 
 @dataclass
 class Node:
-    """A block of the drawing as the graph has it. One without parts is a wire: its output is its input, divided by 2^shift. Parts are in a row, the inputs those
-    of the first and the outputs those of the last, unless it is said what goes where."""
+    """A block of the drawing as the graph has it. One without parts is a wire: its output is its input, divided by
+    2^shift. Parts are in a row, the inputs those of the first and the outputs those of the last, unless it is said what
+    goes where."""
 
     block: DrawnBlock
     inputs: Sequence[Port]

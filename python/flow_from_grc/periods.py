@@ -59,8 +59,8 @@ def _split(settings: Settings, item: ItemType, lengths: Sequence[int]) -> Node:
 
 
 def vector_insert(settings: Settings) -> Node:
-    """In GNU Radio a period begins with the values, and the offset is the place in it at which the output begins; here it is that of the values in what
-    comes out."""
+    """In GNU Radio a period begins with the values, and the offset is the place in it at which the output begins; here
+    it is that of the values in what comes out."""
     item = settings.item_type(ANY)
     values = settings.wholes("vector", item.least, item.most, limit("insert", "values", "most_count"))
     if not values:

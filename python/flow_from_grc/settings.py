@@ -19,8 +19,8 @@ _LONG = 1 << 63
 
 
 class Settings:
-    """The parameters of one block. `defaults` has each one that blocks of its id have, with the text that stands for it where it is not given: an empty one
-    where it has to be."""
+    """The parameters of one block. `defaults` has each one that blocks of its id have, with the text that stands for it
+    where it is not given: an empty one where it has to be."""
 
     def __init__(self, block: DrawnBlock, defaults: Mapping[str, str], variables: Variables, report: Report) -> None:
         self.block = block

@@ -1,4 +1,5 @@
-"""Machines that code, and the decoders that find the path through one: of what came the metrics, and of these the symbols."""
+"""Machines that code, and the decoders that find the path through one: of what came the metrics, and of these the
+symbols."""
 
 from __future__ import annotations
 
@@ -15,7 +16,8 @@ from .settings import Settings
 _BYTE, _INT = ItemType.BYTE, ItemType.INT
 _LETTERS = {"b": ItemType.BYTE, "s": ItemType.SHORT, "i": ItemType.INT}
 _MOST_ROWS = limit("state_machine", "next", "most_count")
-# Of a decoder: how many states there are, and of a block how many metrics, and states over all steps. (The ranges of its parameters have these in words.)
+# Of a decoder: how many states there are, and of a block how many metrics, and states over all steps. (The ranges of
+# its parameters have these in words.)
 _MOST_STATES, _MOST_METRICS, _MOST_CHOICES = 1024, 1024, 16384
 
 
@@ -32,7 +34,8 @@ class _Machine:
 
 @dataclass(frozen=True)
 class _Constellation:
-    """What came is as many items for each step as there are dimensions, and each output a point with as many numbers."""
+    """What came is as many items for each step as there are dimensions, and each output a point with as many
+    numbers."""
 
     item: ItemType
     outputs: int
@@ -111,8 +114,8 @@ def _machine(settings: Settings) -> _Machine:
 
 
 def _code(settings: Settings, count: Any, polynomials: Sequence[Any]) -> _Machine:
-    """A convolutional code with a bit of each polynomial, that of the first the highest. The highest bit of the greatest polynomial is for the newest bit that
-    came, and the state the bits before it."""
+    """A convolutional code with a bit of each polynomial, that of the first the highest. The highest bit of the
+    greatest polynomial is for the newest bit that came, and the state the bits before it."""
     if len(polynomials) != count or not 1 <= len(polynomials) <= _BYTE.bits:
         raise settings.refused("fsm_args", Code.BAD_PARAMETER, "G has n numbers, from 1 to %d" % _BYTE.bits)
     for it in polynomials:
@@ -150,8 +153,9 @@ def _constellation(settings: Settings, outputs: int) -> _Constellation:
 
 
 def _measured(points: _Constellation) -> Tuple[List[Part], List[Tuple[End, End]]]:
-    """For each output T^2 - 2xT, which the square of the distance of x is without the square of x, that all outputs of a step share: blocks of which the first
-    takes what came and the last gives the metrics, and the connections between."""
+    """For each output T^2 - 2xT, which the square of the distance of x is without the square of x, that all outputs
+    of a step share: blocks of which the first takes what came and the last gives the metrics, and the connections
+    between."""
     keys = {"type": str(_INT)}
     parts = _converted(points.item, _INT)
     if points.dimensions > 1 or not parts:

@@ -34,7 +34,8 @@ class TagObject:
 
 
 class Variables:
-    """The values of variables, each found where it is asked for, and kept. What has no value is reported once, at its own line."""
+    """The values of variables, each found where it is asked for, and kept. What has no value is reported once, at its
+    own line."""
 
     def __init__(self, blocks: Sequence[DrawnBlock], report: Report) -> None:
         self._blocks: Dict[str, DrawnBlock] = {it.name: it for it in blocks if is_variable(it.id)}

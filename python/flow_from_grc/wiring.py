@@ -13,7 +13,8 @@ from .nodes import Floats, Node, Port
 
 @dataclass(frozen=True)
 class _Origin:
-    """Where the items of an input come from: an output, through wires of which the last one tells their type, and which divide them by 2^shift."""
+    """Where the items of an input come from: an output, through wires of which the last one tells their type, and which
+    divide them by 2^shift."""
 
     node: Node
     port: int
@@ -22,7 +23,8 @@ class _Origin:
 
 
 class Wiring:
-    """The connections of a drawing. `others` are names of blocks that are no nodes, as those that were refused: what is connected to them is not looked at."""
+    """The connections of a drawing. `others` are names of blocks that are no nodes, as those that were refused: what is
+    connected to them is not looked at."""
 
     def __init__(self, nodes: Sequence[Node], others: Set[str], connections: Sequence[DrawnConnection], report: Report) -> None:
         self._nodes: Dict[str, Node] = {it.block.name: it for it in nodes}

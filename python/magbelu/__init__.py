@@ -1,4 +1,5 @@
-"""Magbelu flowgraphs from Python: this folder and the library libmagbelu.so, which `./build --c` makes. docs/user/C.md says where it is looked for.
+"""Magbelu flowgraphs from Python: this folder and the library libmagbelu.so, which `./build --c` makes. docs/user/C.md
+says where it is looked for.
 
     >>> import magbelu
     >>> print(magbelu.EXAMPLE)
@@ -19,14 +20,17 @@
     >>> items.tolist()
     [4, 11, 102, 103]
 
-A graph is a plant that the library holds until the object goes, or `free` is called: it is fed, set, run and read any number of times, and what was read stays
-readable. A `Stream` is one that forgets what went through it, and so goes on for as long as it is fed; in `magbelu.gnuradio` one is a block of GNU Radio.
-`run_slices` runs a recording in slices of time, on as many threads as there are processors. The library itself starts no thread. Calls release the interpreter's
-lock, so threads may run graphs side by side, each of its own; one graph does one call at a time. Items are `array.array`s, or arrays of numpy where that is
-installed. A `Builder` makes a graph by calls in place of a file, and a graph tells its `blocks`, `connections`, `sources` and `sinks`.
+A graph is a plant that the library holds until the object goes, or `free` is called: it is fed, set, run and read any
+number of times, and what was read stays readable. A `Stream` is one that forgets what went through it, and so goes on
+for as long as it is fed; in `magbelu.gnuradio` one is a block of GNU Radio. `run_slices` runs a recording in slices of
+time, on as many threads as there are processors. The library itself starts no thread. Calls release the interpreter's
+lock, so threads may run graphs side by side, each of its own; one graph does one call at a time. Items are
+`array.array`s, or arrays of numpy where that is installed. A `Builder` makes a graph by calls in place of a file, and a
+graph tells its `blocks`, `connections`, `sources` and `sinks`.
 
-Items, tags, settings, places and counts are integers: `int`, those of numpy, and every other type that has `__index__`, but no truth values. Nothing is rounded, cut
-or wrapped: what is no integer is a `TypeError`, what no call could mean a `ValueError`, and what the library refuses a `Refused` with its number.
+Items, tags, settings, places and counts are integers: `int`, those of numpy, and every other type that has `__index__`,
+but no truth values. Nothing is rounded, cut or wrapped: what is no integer is a `TypeError`, what no call could mean a
+`ValueError`, and what the library refuses a `Refused` with its number.
 """
 
 from typing import Final

@@ -132,7 +132,8 @@ def parts_of(tag: Any) -> tuple[Any, Any, Any]:
 
 
 def marks_of(tags: Iterable[tuple[Any, Any, Any]]) -> tuple[Any, list[Lent]]:
-    """Tags of a feed as C has them, and their keys, which have to be kept. (An offset beyond 64 bits is on no item, as the greatest is.)"""
+    """Tags of a feed as C has them, and their keys, which have to be kept. (An offset beyond 64 bits is on no item, as
+    the greatest is.)"""
     if isinstance(tags, (tuple, list)) and not tags:
         return NO_MARKS, []
     kept, marks = [], []

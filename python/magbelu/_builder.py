@@ -73,8 +73,9 @@ def test(text: str, what: str, number: int = 0) -> None:
 
 
 class Builder(KindBlocks):
-    """A graph that is built by calls: blocks, each with the keys that its kind has in a graph file, and connections. The library tests each call, and refuses it
-    where it would refuse a file that says the same. What only a whole graph can be refused for is told by `graph` and `stream`.
+    """A graph that is built by calls: blocks, each with the keys that its kind has in a graph file, and connections.
+    The library tests each call, and refuses it where it would refuse a file that says the same. What only a whole graph
+    can be refused for is told by `graph` and `stream`.
 
     >>> builder = Builder()
     >>> builder.block("src", "vector_source", type="short"), builder.block("out", "vector_sink", type="short")
@@ -111,7 +112,8 @@ class Builder(KindBlocks):
         return name
 
     def connect(self, writer: End, reader: End) -> None:
-        """Connects an output to an input. An end is the name of a block, of which it is port 0, or a pair of the name and a port.
+        """Connects an output to an input. An end is the name of a block, of which it is port 0, or a pair of the name
+        and a port.
 
         >>> builder = Builder()
         >>> for name in ("one", "two"):

@@ -12,8 +12,9 @@ MOST_LENGTH, MOST_POLYNOMIALS = 12, 8
 
 
 class Code(NamedTuple):
-    """The tables of a code: `symbols`, `next` and `output` of a `state_machine` that gives its words, and with `outputs` of a `viterbi` that takes metrics of them.
-    For words of bits that were decided, `metrics` has the `values` of a `table` for each output."""
+    """The tables of a code: `symbols`, `next` and `output` of a `state_machine` that gives its words, and with
+    `outputs` of a `viterbi` that takes metrics of them. For words of bits that were decided, `metrics` has the `values`
+    of a `table` for each output."""
 
     symbols: int
     next: list[int]
@@ -23,9 +24,10 @@ class Code(NamedTuple):
 
 
 def convolutional(*polynomials: SupportsIndex, order: Order = "msb_first") -> Code:
-    """The tables of the convolutional code that gives a word for each bit, with a bit of each polynomial, that of the first the highest. The highest bit of the
-    greatest polynomial is for the newest bit that came, as in the usual octal numbers and GNU Radio's `trellis.fsm(1, n, polynomials)`; with the order "lsb_first"
-    it is bit 0, as in its `cc_encoder`. The state is the bits before the newest, of which the last to come is the highest.
+    """The tables of the convolutional code that gives a word for each bit, with a bit of each polynomial, that of the
+    first the highest. The highest bit of the greatest polynomial is for the newest bit that came, as in the usual octal
+    numbers and GNU Radio's `trellis.fsm(1, n, polynomials)`; with the order "lsb_first" it is bit 0, as in its
+    `cc_encoder`. The state is the bits before the newest, of which the last to come is the highest.
 
     >>> code = magbelu.convolutional(0o7, 0o5)
     >>> code.next, code.output
@@ -33,7 +35,8 @@ def convolutional(*polynomials: SupportsIndex, order: Order = "msb_first") -> Co
     >>> code.metrics
     [[0, 1, 1, 2], [1, 0, 2, 1], [1, 2, 0, 1], [2, 1, 1, 0]]
 
-    A decoder in blocks of ten bits, each from state 0 to state 0, gives seven bits and the three zeros behind them though two bits of a word came wrong:
+    A decoder in blocks of ten bits, each from state 0 to state 0, gives seven bits and the three zeros behind them
+    though two bits of a word came wrong:
 
     >>> builder = magbelu.Builder()
     >>> for name, kind in (("src", "vector_source"), ("out", "vector_sink")):

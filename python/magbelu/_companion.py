@@ -1,4 +1,5 @@
-"""What the block of GNU Radio Companion asks of a graph file while it is drawn: share/gnuradio/grc/blocks has its description."""
+"""What the block of GNU Radio Companion asks of a graph file while it is drawn: share/gnuradio/grc/blocks has its
+description."""
 
 from __future__ import annotations
 
@@ -19,7 +20,8 @@ def _ports_at(path: str, _time: int, _size: int) -> Ports:
 
 
 def _ports(path: Path) -> dict[str, list[Port]]:
-    """The "inputs" and "outputs" of a file, or none where it is refused, or no file that can be read: they are asked for each port, and while a path is being typed."""
+    """The "inputs" and "outputs" of a file, or none where it is refused, or no file that can be read: they are asked
+    for each port, and while a path is being typed."""
     try:
         # (to read a pipe would wait, and a path may be none)
         if os.path.isfile(path):

@@ -51,9 +51,10 @@ ROWS = {
 
 
 class Error(Exception):
-    """A call was not done. `number`, `name` and `detail` are those of its refusal, as docs/user/REFUSALS.md lists them; `output` is what was written before. Where the
-    graph file is refused, `place` shows where and why, as `flow --explain` does, and the text of the exception has it; else `reason` is a sentence. Of a setting that
-    comes too late (27), `floor` is the first item from which it could be in force.
+    """A call was not done. `number`, `name` and `detail` are those of its refusal, as docs/user/REFUSALS.md lists them;
+    `output` is what was written before. Where the graph file is refused, `place` shows where and why, as `flow
+    --explain` does, and the text of the exception has it; else `reason` is a sentence. Of a setting that comes too late
+    (27), `floor` is the first item from which it could be in force.
 
     >>> magbelu.check("[[block]]")
     Traceback (most recent call last):

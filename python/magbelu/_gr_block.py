@@ -37,7 +37,8 @@ INPUTS: weakref.WeakValueDictionary[str, Input] = weakref.WeakValueDictionary()
 
 
 def telling(call: Any) -> Any:
-    """A call of GNU Radio's top block that tells which input of a graph lacks a connection: it names the block before the port, as `copy(9)`, of which nobody knows."""
+    """A call of GNU Radio's top block that tells which input of a graph lacks a connection: it names the block before
+    the port, as `copy(9)`, of which nobody knows."""
 
     @functools.wraps(call)
     def told(*words: Any, **named: Any) -> Any:
@@ -60,8 +61,8 @@ MOST_FED = 65536
 
 
 class ThreadState:
-    """Has Python keep what it holds of the calling thread, from `keep` to `drop`. Of a thread that it has not started, as GNU Radio's are, it makes that anew in each call,
-    which is a third of what a call takes."""
+    """Has Python keep what it holds of the calling thread, from `keep` to `drop`. Of a thread that it has not started,
+    as GNU Radio's are, it makes that anew in each call, which is a third of what a call takes."""
 
     def __init__(self) -> None:
         self._thread: Optional[int] = None
@@ -79,11 +80,13 @@ class ThreadState:
 
 
 class Block(BasicBlock):  # type: ignore[misc]
-    """Feeds the sources of a graph from the input ports, each where it lacks items, and drains the sinks into the output ports.
+    """Feeds the sources of a graph from the input ports, each where it lacks items, and drains the sinks into the
+    output ports.
 
-    Where it has nothing to do it asks for an item at each port whose source lacks one, so that GNU Radio wakes it once one comes. But where the block before such a port
-    is done, GNU Radio would end this one for that, and tells it nothing before. So there is a block of GNU Radio's before each port, which copies: where that is done, all
-    it wrote was taken, and the source lacks more, the source is closed.
+    Where it has nothing to do it asks for an item at each port whose source lacks one, so that GNU Radio wakes it once
+    one comes. But where the block before such a port is done, GNU Radio would end this one for that, and tells it
+    nothing before. So there is a block of GNU Radio's before each port, which copies: where that is done, all it wrote
+    was taken, and the source lacks more, the source is closed.
     """
 
     def __init__(self, stream: Stream, names: list[str], ports: Any, ends: list[Any], tags: Tags) -> None:
@@ -112,7 +115,8 @@ class Block(BasicBlock):  # type: ignore[misc]
         self._has_more = [False] * len(self._outputs)
         self._lacking: Optional[list[int]] = None
         self._is_over = False
-        # How many items a source is fed at a time: twice as many each time, and half where the sinks took more of them than there was room for.
+        # How many items a source is fed at a time: twice as many each time, and half where the sinks took more of them
+        # than there was room for.
         self._most = 1
 
     def start(self) -> bool:
@@ -177,7 +181,8 @@ class Block(BasicBlock):  # type: ignore[misc]
         self._lacking = [port for port, name in enumerate(self._inputs) if self.stream.need(name).what == "feed"]
 
     def _feed(self, inputs: list[Any], taken: list[int]) -> bool:
-        """Feeds the sources that lack items what has come for them, or closes them. It gives whether there was any such."""
+        """Feeds the sources that lack items what has come for them, or closes them. It gives whether there was any
+        such."""
         is_fed = False
         for port in self._lacking or []:
             name, first = self._inputs[port], self.nitems_read(port) + taken[port]

@@ -12,8 +12,8 @@ from ._plot import plot
 
 
 class Graph(Held):
-    """A graph that the library holds: its tapes, its buffers, and how far it is. `path` is only what the text is called where it is refused. Where it is no
-    longer needed it is freed, at the end of a `with` or when it goes.
+    """A graph that the library holds: its tapes, its buffers, and how far it is. `path` is only what the text is called
+    where it is refused. Where it is no longer needed it is freed, at the end of a `with` or when it goes.
 
     >>> with Graph(magbelu.EXAMPLE) as graph:
     ...     graph.feed("src", [250, 1])
@@ -55,8 +55,8 @@ class Graph(Held):
         return array_of(piece.item_size, data.part(0, piece.bytes_len)), tags_of(lines.part(0, piece.tags_len).decode().split())
 
     def plot(self, sink: Text, start: SupportsIndex = 0, count: Optional[SupportsIndex] = None, spectrum: bool = False, axes: Any = None) -> Any:
-        """Plots what `read` gives, by matplotlib: items over their numbers, with the tags as marks, or their spectrum. It draws on `axes`, or on new ones of pyplot,
-        and gives them.
+        """Plots what `read` gives, by matplotlib: items over their numbers, with the tags as marks, or their spectrum.
+        It draws on `axes`, or on new ones of pyplot, and gives them.
 
         >>> graph = Graph(magbelu.EXAMPLE)
         >>> graph.feed("src", [250, 1, 2, 3], tags=[(1, "burst", 7)]), graph.settle()

@@ -130,9 +130,9 @@ class Held:
         return CODES[self._source_sizes[name]] == code
 
     def feed(self, source: Text, items: Items, tags: Iterable[tuple[SupportsIndex, Text, SupportsIndex]] = (), big_endian: bool = False) -> int:
-        """Appends items to what a source is fed: integers, as a list, an array or whatever gives them one by one, or the bytes of items, as `bytes`, a `bytearray` or a
-        `memoryview` of bytes. `tags` are (offset, key, value), at offsets on these items, counted from the first that it was ever fed. It gives
-        how many items it was fed.
+        """Appends items to what a source is fed: integers, as a list, an array or whatever gives them one by one, or
+        the bytes of items, as `bytes`, a `bytearray` or a `memoryview` of bytes. `tags` are (offset, key, value), at
+        offsets on these items, counted from the first that it was ever fed. It gives how many items it was fed.
 
         >>> graph = magbelu.Graph(magbelu.EXAMPLE)
         >>> graph.feed("src", [250, 1], tags=[(1, "burst", 7)])
@@ -168,7 +168,8 @@ class Held:
         return int(self._call("close", source, name.at, name.len).value)
 
     def set(self, block: Text, value: Union[SupportsIndex, Iterable[SupportsIndex]], at: Optional[SupportsIndex] = None) -> int:
-        """Sets a block's value, a number or taps, from its input item `at` on, or from the first that it has not taken. It gives that item.
+        """Sets a block's value, a number or taps, from its input item `at` on, or from the first that it has not taken.
+        It gives that item.
 
         >>> graph = magbelu.Graph(magbelu.EXAMPLE)
         >>> graph.set("add", 100, at=2)
@@ -201,8 +202,8 @@ class Held:
         return int(reply.value) if reply.what == 0 else 0
 
     def settle(self) -> bool:
-        """Runs the graph until it comes to rest. It gives whether all blocks are done, for which all sources have to be closed; each sink has taken its whole
-        stream then."""
+        """Runs the graph until it comes to rest. It gives whether all blocks are done, for which all sources have to be
+        closed; each sink has taken its whole stream then."""
         return bool(self._call("settle", "").status == 0)
 
     def need(self, block: Text) -> Need:
@@ -218,8 +219,8 @@ class Held:
         return Need(what, int(reply.value) if what in ("items", "room") else None)
 
     def slices(self, tags: bool = False) -> Slices:
-        """How the runs of the graph are cut into slices of time that give the items of the whole run, and its tags too where these are asked for. A graph is refused
-        (63) of which a block keeps all that it was given.
+        """How the runs of the graph are cut into slices of time that give the items of the whole run, and its tags too
+        where these are asked for. A graph is refused (63) of which a block keeps all that it was given.
 
         >>> graph = magbelu.Graph(magbelu.EXAMPLE.replace("add_const", "moving_sum").replace("value = 10", "length = 4"))
         >>> graph.slices()
@@ -228,8 +229,9 @@ class Held:
         return plan_of(self, tags)
 
     def slice(self, begins: SupportsIndex, tags: bool = False) -> Slice:
-        """The slice that begins at an iteration, of which none lies within the first overlap (64): run on what it does not leave out of its sources, by a stream for it
-        (`Stream.anew`), it gives each sink what the whole run gives from there on, behind what is dropped.
+        """The slice that begins at an iteration, of which none lies within the first overlap (64): run on what it does
+        not leave out of its sources, by a stream for it (`Stream.anew`), it gives each sink what the whole run gives
+        from there on, behind what is dropped.
 
         >>> graph = magbelu.Graph(magbelu.EXAMPLE.replace("add_const", "moving_sum").replace("value = 10", "length = 4"))
         >>> graph.slice(100)
@@ -276,7 +278,8 @@ class Held:
 
     @functools.cached_property
     def firings(self) -> Optional[dict[str, int]]:
-        """How often each block fires in an iteration, after which all buffers are as they were; nothing where no numbers of firings are, or the least are too many.
+        """How often each block fires in an iteration, after which all buffers are as they were; nothing where no
+        numbers of firings are, or the least are too many.
 
         >>> magbelu.Graph(magbelu.EXAMPLE).firings
         {'src': 1, 'add': 1, 'out': 1}
@@ -326,8 +329,8 @@ class Held:
         return [Port(it.name, it.input_type) for it in self.blocks if it.role == "sink" and it.input_type]
 
     def draw(self, format: str = "dot") -> str:
-        """The graph as text from which Graphviz's `dot` draws it, or with "mermaid" Mermaid, as `flow draw` writes it; or with "svg" the picture, for which `dot` has to
-        be installed. In a notebook a graph shows itself so.
+        """The graph as text from which Graphviz's `dot` draws it, or with "mermaid" Mermaid, as `flow draw` writes it;
+        or with "svg" the picture, for which `dot` has to be installed. In a notebook a graph shows itself so.
 
         >>> print(magbelu.Graph(magbelu.EXAMPLE).draw(), end="")
         digraph {
@@ -383,7 +386,8 @@ class Held:
         return bool(self._plant.is_open)
 
     def __reduce__(self: Own) -> tuple[type[Own], tuple[bytes, str]]:
-        """A copy, and what comes out of a pickle, is what the same file opens: at its beginning, with what the file itself feeds."""
+        """A copy, and what comes out of a pickle, is what the same file opens: at its beginning, with what the file
+        itself feeds."""
         return type(self), (self._text, self.path)
 
     def __enter__(self: Own) -> Own:

@@ -17,8 +17,8 @@ Numbers = Iterable[SupportsIndex]
 
 class Kind(NamedTuple):
     """A kind of blocks: what it gives, the types that a block may have, what each parameter may be, how many items it
-    gives for how many, an example, the parameter that may be set while it runs, and values for those that a block needs,
-    whatever its type."""
+    gives for how many, an example, the parameter that may be set while it runs, and values for those that a block
+    needs, whatever its type."""
 
     name: str
     equation: str
@@ -575,7 +575,8 @@ KINDS: Mapping[str, str] = {name: it.page for name, it in KIND_ROWS.items()}
 
 
 class KindBlocks:
-    """The keywords of each kind's parameters, for those who look at types. A parameter that may be left out has the value `...` here."""
+    """The keywords of each kind's parameters, for those who look at types. A parameter that may be left out has the
+    value `...` here."""
 
     @overload
     def block(self, name: str, kind: Literal["vector_source"], *, type: Type, capacity: Number = ...) -> str: ...

@@ -105,7 +105,8 @@ _FEATURES_OF_V3 = {"avx", "avx2", "bmi1", "bmi2", "f16c", "fma", "abm", "movbe"}
 
 
 def _levels() -> list[str]:
-    """The folders below the library's where one for this processor may stand, the best first. (Of a path glibc makes no such choice.)"""
+    """The folders below the library's where one for this processor may stand, the best first. (Of a path glibc makes no
+    such choice.)"""
     try:
         with open("/proc/cpuinfo") as lines:
             flags: list[str] = next((line.split() for line in lines if line.startswith("flags")), [])

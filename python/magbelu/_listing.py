@@ -21,7 +21,8 @@ SIZES = {"byte": 1, "short": 2, "int": 4}
 
 
 class Port(NamedTuple):
-    """A source or a sink, with the type of its items: "byte", "short" or "int", as GNU Radio Companion calls them too."""
+    """A source or a sink, with the type of its items: "byte", "short" or "int", as GNU Radio Companion calls them
+    too."""
 
     name: str
     type: str
@@ -42,8 +43,9 @@ class Port(NamedTuple):
 
 
 class Block(NamedTuple):
-    """A block of a graph: what it does with streams ("source", "work", "sink" where it keeps its items, "null_sink"), how many of its inputs and outputs are
-    connected, and the types of the items there. Where it has no ports on a side there is no type."""
+    """A block of a graph: what it does with streams ("source", "work", "sink" where it keeps its items, "null_sink"),
+    how many of its inputs and outputs are connected, and the types of the items there. Where it has no ports on a side
+    there is no type."""
 
     name: str
     kind: str
@@ -68,8 +70,8 @@ WAITS = {0: "ready", 1: "done", 2: "items", 3: "room", 5: "feed"}
 
 
 class Need(NamedTuple):
-    """What a block waits for: it may act ("ready"), is "done", or waits for "items" at an input or "room" at an output, which is the port; or it is a source that is
-    to be fed or closed ("feed").
+    """What a block waits for: it may act ("ready"), is "done", or waits for "items" at an input or "room" at an output,
+    which is the port; or it is a source that is to be fed or closed ("feed").
 
     >>> Need("items", 0).port
     0
@@ -80,8 +82,8 @@ class Need(NamedTuple):
 
 
 class Setting(NamedTuple):
-    """What of a block may be set: a number, or as many taps as its own, of which each lies between the least and the most. `value` is the block's own, which is in
-    force until another is set.
+    """What of a block may be set: a number, or as many taps as its own, of which each lies between the least and the
+    most. `value` is the block's own, which is in force until another is set.
 
     >>> Setting(0, 255, 10).most
     255
@@ -93,8 +95,9 @@ class Setting(NamedTuple):
 
 
 class Rates(NamedTuple):
-    """How many items a firing of a block takes of each connected input, and gives on each output. Where it shifts its stream, its first firings are others, so many
-    as `shifted` says: they give nothing ("skips"), or take nothing ("delays").
+    """How many items a firing of a block takes of each connected input, and gives on each output. Where it shifts its
+    stream, its first firings are others, so many as `shifted` says: they give nothing ("skips"), or take nothing
+    ("delays").
 
     >>> Rates([1, 1], 1, None, 0).takes
     [1, 1]

@@ -5,13 +5,15 @@ from __future__ import annotations
 from typing import Any, Iterator, Sequence
 
 
-# In points: the size of a label's font, the least distance to its tag's line, and how much room a label takes with its edges.
+# In points: the size of a label's font, the least distance to its tag's line, and how much room a label takes with its
+# edges.
 SIZE, BEHIND, WIDTH = 8, 3, 13
 
 
 def labels_of(axes: Any, tags: Sequence[Any]) -> Iterator[tuple[int, float, str]]:
-    """The labels of tags in their order: the item, how many points it is behind that, and the text. Where the one before it stands, a label goes behind that. Behind the
-    last for which there is room, the number of the others is told."""
+    """The labels of tags in their order: the item, how many points it is behind that, and the text. Where the one
+    before it stands, a label goes behind that. Behind the last for which there is room, the number of the others is
+    told."""
     points = 72 / axes.figure.dpi
     edge, behind = axes.bbox.x1 * points, 0.0
     for at, tag in enumerate(tags):
@@ -44,7 +46,8 @@ def plot_items(axes: Any, start: int, items: Any, tags: Sequence[Any]) -> None:
 
 
 def plot_spectrum(axes: Any, items: Any) -> None:
-    """The amplitudes of the items' sines over their frequencies, in decibels over an amplitude of 1, through a Hann window."""
+    """The amplitudes of the items' sines over their frequencies, in decibels over an amplitude of 1, through a Hann
+    window."""
     import numpy
 
     if len(items) == 0:

@@ -13,7 +13,8 @@ Path = Union[str, "os.PathLike[str]"]
 
 
 class Ports(NamedTuple):
-    """The input ports of a graph, which are its sources, and its output ports, which are its vector sinks, in the order of the file."""
+    """The input ports of a graph, which are its sources, and its output ports, which are its vector sinks, in the order
+    of the file."""
 
     inputs: list[Port]
     outputs: list[Port]

@@ -16,8 +16,8 @@ NO_PATH = "<graph>"
 
 
 class Place(NamedTuple):
-    """Where a graph file is refused: the line and the column of a word, from 1, how many characters it has on that line,
-    and why. A column counts characters.
+    """Where a graph file is refused: the line and the column of a word, from 1, how many characters it has on that
+    line, and why. A column counts characters.
 
     >>> Place(2, 1, 4, "there is no key `valu`").line
     2
@@ -91,7 +91,8 @@ def refusal(answer: Any, error: Room, file: Lent, path: str = NO_PATH, output: s
 
 
 def texts(name: str, *given: Text, room: int = 65536, path: str = NO_PATH) -> tuple[str, int]:
-    """Calls until the output fits, and gives it with the status. The first text is a graph file's, which is called `path` where it is refused."""
+    """Calls until the output fits, and gives it with the status. The first text is a graph file's, which is called
+    `path` where it is refused."""
     lent = [Lent(bytes_of(it)) for it in given]
     words = [word for it in lent for word in (it.at, it.len)]
     error = Room(4096)
@@ -168,9 +169,9 @@ def run_items(
     big_endian: bool = False,
     room: Optional[int] = None,
 ) -> tuple[list[bytes], bool]:
-    """Runs a graph between raw items. `inputs` are pairs of a source's name and bytes (any object that lends bytes), `outputs` names of sinks, or pairs of a
-    name and "tags". It gives a list with the bytes of each output, and whether all blocks came to be done. Where the outputs do not fit into `room` bytes the graph
-    is run once more with enough.
+    """Runs a graph between raw items. `inputs` are pairs of a source's name and bytes (any object that lends bytes),
+    `outputs` names of sinks, or pairs of a name and "tags". It gives a list with the bytes of each output, and whether
+    all blocks came to be done. Where the outputs do not fit into `room` bytes the graph is run once more with enough.
 
     >>> magbelu.run_items(magbelu.EXAMPLE, [("src", b"ABC")], ["out", ("out", "tags")])
     ([b'KLM', b''], True)

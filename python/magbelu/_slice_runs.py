@@ -16,8 +16,8 @@ from ._held import CODES, Array, array_of
 from ._slices import Slices
 from ._stream import Stream
 
-# A piece has so many bytes of the widest stream, or less where a thread would have fewer pieces than these. It has ten times the overlap at least, and so many
-# bytes at most.
+# A piece has so many bytes of the widest stream, or less where a thread would have fewer pieces than these. It has ten
+# times the overlap at least, and so many bytes at most.
 USUAL, PIECES, OVERLAPS, MOST = 1 << 21, 4, 10, 1 << 26
 # The length of what has none that is known, as a pipe.
 ENDLESS = 1 << 63
@@ -45,7 +45,8 @@ class Tape:
 
     def __init__(self, source: str, item_size: int, reader: Any, length: int) -> None:
         self.source, self.item_size, self.reader, self.length = source, item_size, reader, length
-        # How many bytes a piece has of its own, and how many it reads before them; what was read and is not run past, and of that the overlap.
+        # How many bytes a piece has of its own, and how many it reads before them; what was read and is not run past,
+        # and of that the overlap.
         self.own = self.overlap = self.front = 0
         self.ready = b""
         self.is_cut = False
@@ -94,7 +95,8 @@ class Sheet:
 
 
 class Team(NamedTuple):
-    """A stream at its beginning, its sources and its sinks, how many threads run pieces, and of how many iterations, each of which begins so many earlier."""
+    """A stream at its beginning, its sources and its sinks, how many threads run pieces, and of how many iterations,
+    each of which begins so many earlier."""
 
     stream: Stream
     tapes: list[Tape]
@@ -121,7 +123,8 @@ class Team(NamedTuple):
             sheet.write(items)
 
     def run_pieces(self) -> int:
-        """Runs pieces as long as all of them are whole, and tells how many there were. What they give is written in their order."""
+        """Runs pieces as long as all of them are whole, and tells how many there were. What they give is written in
+        their order."""
         waiting: collections.deque[Any] = collections.deque()
         count = 0
         with concurrent.futures.ThreadPoolExecutor(self.jobs) as pool:
@@ -203,7 +206,8 @@ def test_files(input: Mapping[str, Input], output: Mapping[str, Optional[Path]])
 
 
 def test_ends(stream: Stream, plan: Slices, input: Mapping[str, Input], output: Mapping[str, Optional[Path]]) -> None:
-    """What is named is there, no source is fed by the graph file, which each slice would feed to it once more, and each sink has an output."""
+    """What is named is there, no source is fed by the graph file, which each slice would feed to it once more, and each
+    sink has an output."""
     for source in input:
         stream._size(source)
     for sink in output:
@@ -219,14 +223,17 @@ def test_ends(stream: Stream, plan: Slices, input: Mapping[str, Input], output: 
 def run_slices(
     file: Text, input: Mapping[str, Input], output: Optional[Mapping[str, Optional[Path]]] = None, jobs: Optional[SupportsIndex] = None,
 ) -> dict[str, Array]:
-    """Runs a graph in slices of time, on `jobs` threads, or as many as there are processors: the bytes are those of one run. `input` has a path, bytes or an array
-    for each source (one that is not there gets nothing), `output` a path or None for each sink, or is None itself. What a sink without a path gives is given back.
+    """Runs a graph in slices of time, on `jobs` threads, or as many as there are processors: the bytes are those of one
+    run. `input` has a path, bytes or an array for each source (one that is not there gets nothing), `output` a path or
+    None for each sink, or is None itself. What a sink without a path gives is given back.
 
-    What stands in an output is a beginning of its stream at any time, and stays there where the run fails. Some pieces of 2 MiB, or of ten times the overlap, are in
-    memory for each thread, and what is given back. A graph that is not cut is refused (63), and so is a source that the graph file feeds, or a sink that
-    `output` has not (64). An input that ends within an item ends with the item before, and is refused (53) when all is written.
+    What stands in an output is a beginning of its stream at any time, and stays there where the run fails. Some pieces
+    of 2 MiB, or of ten times the overlap, are in memory for each thread, and what is given back. A graph that is not
+    cut is refused (63), and so is a source that the graph file feeds, or a sink that `output` has not (64). An input
+    that ends within an item ends with the item before, and is refused (53) when all is written.
 
-    The threads run side by side, since a call of the library lets go of the interpreter's lock. Processes would do so too, but what goes to one and back is copied.
+    The threads run side by side, since a call of the library lets go of the interpreter's lock. Processes would do so
+    too, but what goes to one and back is copied.
 
     >>> magbelu.run_slices(magbelu.EXAMPLE, {"src": bytes([250, 1, 2])}, jobs=2)["out"].tolist()
     [4, 11, 12]

@@ -14,7 +14,8 @@ NO_SLICES, NO_BLOCK = 63, 2**32 - 1
 
 
 class SourceSlices(NamedTuple):
-    """How what a source gets is cut: how many items it gives in an iteration, and how many items before its own a slice reads."""
+    """How what a source gets is cut: how many items it gives in an iteration, and how many items before its own a slice
+    reads."""
 
     source: str
     period: int
@@ -22,7 +23,8 @@ class SourceSlices(NamedTuple):
 
 
 class SinkSlices(NamedTuple):
-    """How what a sink gives is put together: how many items it takes in an iteration, and how many a slice drops that does not begin the run."""
+    """How what a sink gives is put together: how many items it takes in an iteration, and how many a slice drops that
+    does not begin the run."""
 
     sink: str
     period: int
@@ -30,8 +32,8 @@ class SinkSlices(NamedTuple):
 
 
 class Slices(NamedTuple):
-    """How the runs of a graph are cut into slices of time: how many iterations before its own a slice reads, each source, each sink, and the first block whose items
-    rest on how many came before, if there is one."""
+    """How the runs of a graph are cut into slices of time: how many iterations before its own a slice reads, each
+    source, each sink, and the first block whose items rest on how many came before, if there is one."""
 
     overlap: int
     sources: list[SourceSlices]

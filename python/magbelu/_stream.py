@@ -50,8 +50,8 @@ class Piece(NamedTuple):
 
 
 class Levels(NamedTuple):
-    """How far a block is: how many items it has taken of its first input, or of its tape; how many it has given on each output, or has taken as a sink; and how many
-    have come that it has not taken."""
+    """How far a block is: how many items it has taken of its first input, or of its tape; how many it has given on each
+    output, or has taken as a sink; and how many have come that it has not taken."""
 
     taken: int
     given: int
@@ -59,9 +59,10 @@ class Levels(NamedTuple):
 
 
 class Stream(Held):
-    """A graph that streams: it forgets what its sources have taken and what was drained of its sinks, and so runs in constant memory for as long as it is fed. `path`
-    is only what the text is called where it is refused. Where it is no longer needed it is freed, at the end of a `with` or when it goes. With `leaves_out` it is one for
-    a slice, as `anew` gives it.
+    """A graph that streams: it forgets what its sources have taken and what was drained of its sinks, and so runs in
+    constant memory for as long as it is fed. `path` is only what the text is called where it is refused. Where it is no
+    longer needed it is freed, at the end of a `with` or when it goes. With `leaves_out` it is one for a slice, as
+    `anew` gives it.
 
     >>> with Stream(magbelu.EXAMPLE) as stream:
     ...     for number in (1, 2):
@@ -93,8 +94,9 @@ class Stream(Held):
         self._drained_of: dict[bytes, int] = {}
 
     def anew(self, leaves_out: Optional[SupportsIndex] = None) -> Stream:
-        """A stream of the same graph, at its beginning; or for a slice that leaves out so many iterations of each source, as `slice` tells. Then each block goes on where it
-        stands after these, nothing is fed, and items are numbered from where the slice begins.
+        """A stream of the same graph, at its beginning; or for a slice that leaves out so many iterations of each
+        source, as `slice` tells. Then each block goes on where it stands after these, nothing is fed, and items are
+        numbered from where the slice begins.
 
         >>> stream = Stream(magbelu.EXAMPLE.replace("add_const", "head").replace("value = 10", "n = 5"))
         >>> later = stream.anew(3)
@@ -115,8 +117,8 @@ class Stream(Held):
         return Levels(told.taken, told.given, told.waiting)
 
     def drain(self, sink: Text, count: Optional[SupportsIndex] = None) -> tuple[Array, list[Tag]]:
-        """Takes at most `count` items away of those that a sink has taken and that were not drained yet, and gives them with the tags on them. The offset of a tag counts
-        from the first item that the sink ever took.
+        """Takes at most `count` items away of those that a sink has taken and that were not drained yet, and gives them
+        with the tags on them. The offset of a tag counts from the first item that the sink ever took.
 
         >>> stream = Stream(magbelu.EXAMPLE)
         >>> stream.feed("src", [250, 1, 2], tags=[(2, "burst", 7)]), stream.settle()
@@ -138,8 +140,8 @@ class Stream(Held):
         return array_of(piece.item_size, data.part(0, piece.bytes_len)), tags
 
     def drain_into(self, sink: Text, room: Any) -> tuple[int, list[Tag]]:
-        """Does the same with an array of the caller, which gets at most as many items as it has places: one of numpy or an `array.array`, of the type that `drain` gives.
-        It tells how many items it got.
+        """Does the same with an array of the caller, which gets at most as many items as it has places: one of numpy or
+        an `array.array`, of the type that `drain` gives. It tells how many items it got.
 
         >>> import array
         >>> stream, room = Stream(magbelu.EXAMPLE), array.array("B", [0, 0])
@@ -195,9 +197,10 @@ class Stream(Held):
         return plot(bytes_of(sink).decode(), first, items, tags, flag(spectrum, "spectrum"), axes)
 
     def through(self, /, **pieces: Iterable[Items]) -> Iterator[Piece]:
-        """Runs the graph over what comes in, and gives what its sinks give, piece after piece, until all blocks are done. `pieces` has an iterable for each source: of
-        arrays of items, or of whatever `feed` takes. The next of them is only taken where the graph lacks it, so that no more is in memory than
-        the blocks need; where there is none, the source is closed. It ends too where a source is open that is not among them and would have to be fed.
+        """Runs the graph over what comes in, and gives what its sinks give, piece after piece, until all blocks are
+        done. `pieces` has an iterable for each source: of arrays of items, or of whatever `feed` takes. The next of
+        them is only taken where the graph lacks it, so that no more is in memory than the blocks need; where there is
+        none, the source is closed. It ends too where a source is open that is not among them and would have to be fed.
 
         >>> stream = Stream(magbelu.EXAMPLE)
         >>> for piece in stream.through(src=[[250, 1], [2]]):
@@ -222,8 +225,9 @@ class Stream(Held):
             is_over = is_over or not lacking
 
     def through_async(self, /, **pieces: Union[Iterable[Items], AsyncIterable[Items]]) -> AsyncIterator[Piece]:
-        """The same for `async for`, where `pieces` may have asynchronous iterables too. A source whose next piece does not come holds up only what needs its items, and the
-        graph runs in a thread of its own meanwhile: whoever else has the stream may set its blocks.
+        """The same for `async for`, where `pieces` may have asynchronous iterables too. A source whose next piece does
+        not come holds up only what needs its items, and the graph runs in a thread of its own meanwhile: whoever else
+        has the stream may set its blocks.
 
         >>> import asyncio
         >>> async def show(stream):

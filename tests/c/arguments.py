@@ -1,4 +1,5 @@
-"""What python/magbelu makes of its arguments before it calls the library, over a library that only notes its calls. tests/parts/c.sh calls it."""
+"""What python/magbelu makes of its arguments before it calls the library, over a library that only notes its calls.
+tests/parts/c.sh calls it."""
 
 import array
 import copy
@@ -107,7 +108,8 @@ class Lacking(Noting):
 
 
 class Telling(Noting):
-    """The same of a graph of three blocks: `a` has 300 taps, `b` a number that may be set, `c` nothing. Its rates have a balance, or not."""
+    """The same of a graph of three blocks: `a` has 300 taps, `b` a number that may be set, `c` nothing. Its rates have
+    a balance, or not."""
 
     is_balanced = True
 
@@ -370,7 +372,8 @@ def copies_have_plants_of_their_own():
 
 
 def numpy_items_are_integers():
-    """An array whose items stand as those of the source, which has shorts, goes in as it is; the others as numbers, or not."""
+    """An array whose items stand as those of the source, which has shorts, goes in as it is; the others as numbers, or
+    not."""
     for items in [numpy.array([1, -2], "i2"), numpy.array([0, 1, -2], "i2")[1:], numpy.array([[1, -2], [3, 4]], "i2")[0]]:
         makes(lambda: graph.feed("src", items, big_endian=True), "feed", b"src", False, b"\1\0\xfe\xff", [])
     for items in [numpy.array([1, 7, -2], "i2")[::2], numpy.array([1, -2], ">i2"), numpy.array([1, -2], "i8"), numpy.array([1, -2], "i1"), numpy.array([1, -2], object)]:

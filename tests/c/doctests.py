@@ -1,4 +1,5 @@
-"""The examples in the docstrings of python/magbelu and on the pages of docs/, over the library. tests/parts/c.sh calls it, with the top of the checkout."""
+"""The examples in the docstrings of python/magbelu and on the pages of docs/, over the library. tests/parts/c.sh calls
+it, with the top of the checkout."""
 
 import doctest
 import importlib

@@ -1,4 +1,5 @@
-"""python/magbelu over the examples, raw items, tags, settings, and what is wrong. tests/parts/c.sh calls it, with the top of the checkout."""
+"""python/magbelu over the examples, raw items, tags, settings, and what is wrong. tests/parts/c.sh calls it, with the
+top of the checkout."""
 
 import array
 import copy
@@ -387,7 +388,8 @@ connect = [{ from = "a", to = "b" }, { from = "b", to = "c" }, { from = "c", fro
 
 
 def graphs_tell_how_blocks_move():
-    """Of `slow` a firing takes six items and gives two, so that those before it fire six times for it, and its sink twice."""
+    """Of `slow` a firing takes six items and gives two, so that those before it fire six times for it, and its sink
+    twice."""
     text = """block = [{ name = "src", kind = "vector_source", type = "short" }, { name = "skip", kind = "skiphead", type = "short", n = 5 },
     { name = "zeros", kind = "delay", type = "short", n = 4 }, { name = "slow", kind = "fir", type = "short", taps = [1, -2, 3], decimation = 3, multiple = 2 },
     { name = "gain", kind = "scale", type = "short", factor = -3, capacity = 9000 }, { name = "out", kind = "vector_sink", type = "short" }]

@@ -1,4 +1,5 @@
-"""Pictures and plots of python/magbelu, over a stand-in for the library that has a drawing and holds items. tests/parts/c.sh calls it."""
+"""Pictures and plots of python/magbelu, over a stand-in for the library that has a drawing and holds items.
+tests/parts/c.sh calls it."""
 
 import ctypes
 import re
@@ -107,7 +108,8 @@ def items_are_plotted():
 
 
 def labels_cover_no_other():
-    """Labels of tags that are close, or on one item, stand beside one another, each behind its item, and items are numbered by whole numbers."""
+    """Labels of tags that are close, or on one item, stand beside one another, each behind its item, and items are
+    numbered by whole numbers."""
     for tags, count in [
         ("@1:burst=7/0\n@1:end=-1/0\n@2:x=5/0\n", 4),
         ("@100:burst=7/0\n@103:end=-1/0\n@105:packet_length=500/0\n@106:a=1/0\n@600:b=2/0\n@601:c=3/0\n", 1000),
@@ -123,7 +125,8 @@ def labels_cover_no_other():
 
 
 def items_are_numbered():
-    """By whole numbers written out, whether there are none or many, and wherever they begin; no number covers another."""
+    """By whole numbers written out, whether there are none or many, and wherever they begin; no number covers
+    another."""
     for start, count in [(0, 0), (0, 1), (7, 1), (0, 2), (0, 100), (10**9, 50), (2**32 - 10, 10), (123456, 20_000_000)]:
         axes = plot("out", start, range(count), [], False, None)
         axes.figure.canvas.draw()

@@ -1,4 +1,5 @@
-"""What the tests of graphs.py and of streams.py share: a chain, graphs drawn by chance, and what is to be refused or raised."""
+"""What the tests of graphs.py and of streams.py share: a chain, graphs drawn by chance, and what is to be refused or
+raised."""
 
 try:
     import tomllib  # noqa: F401 (graphs.py and streams.py take it from here)

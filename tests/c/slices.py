@@ -1,4 +1,5 @@
-"""Runs of python/magbelu in slices of time beside whole runs: generated graphs, files and arrays, faults, and what is refused. tests/parts/c.sh calls it."""
+"""Runs of python/magbelu in slices of time beside whole runs: generated graphs, files and arrays, faults, and what is
+refused. tests/parts/c.sh calls it."""
 
 import array
 import os
@@ -78,7 +79,8 @@ def slices_give_what_runs_give():
 
 
 def blocks_that_count_go_on():
-    """A head that ends before the items, at their end or behind it, and a scrambler with registers of any length, in pieces of ten iterations."""
+    """A head that ends before the items, at their end or behind it, and a scrambler with registers of any length, in
+    pieces of ten iterations."""
     rng = random.Random(66)
     for _ in range(40):
         bits, length = rng.choice([2, 3, 17, 31, 32]), rng.choice([0, 1, 50, 600])

@@ -1,4 +1,5 @@
-"""Streams of python/magbelu beside whole runs: pieces in and out, needs, tags, settings, and what is wrong. tests/parts/c.sh calls it."""
+"""Streams of python/magbelu beside whole runs: pieces in and out, needs, tags, settings, and what is wrong.
+tests/parts/c.sh calls it."""
 
 import array
 import asyncio
@@ -9,7 +10,8 @@ from shared import CHAIN, generated, raises, refuses, tomllib
 
 
 def streams_give_what_runs_give():
-    """Generated graphs, which are fed in pieces, give what a run of the whole feed gives, and what was given is forgotten."""
+    """Generated graphs, which are fed in pieces, give what a run of the whole feed gives, and what was given is
+    forgotten."""
     if tomllib is None:
         return
     rng, done = random.Random(33), 0
@@ -31,7 +33,8 @@ def streams_give_what_runs_give():
 
 
 def streams_are_stepped():
-    """Where the blocks of a stream are stepped by themselves, in any order and by any count of firings, it gives what a run of the whole feed gives."""
+    """Where the blocks of a stream are stepped by themselves, in any order and by any count of firings, it gives what a
+    run of the whole feed gives."""
     if tomllib is None:
         return
     rng, done = random.Random(34), 0
@@ -65,7 +68,8 @@ def streams_are_stepped():
 
 
 def streams_take_what_they_lack():
-    """Of two sources that are added, one comes in large pieces and the other in small ones: no more is taken of either than the other needs."""
+    """Of two sources that are added, one comes in large pieces and the other in small ones: no more is taken of either
+    than the other needs."""
     taken = {"a": 0, "b": 0}
 
     def numbers(name, size):
@@ -101,7 +105,8 @@ async def soon(pieces):
 
 
 def streams_go_on_beside_a_silent_source():
-    """A source that gives nothing until the other's items are out holds them up for nobody; meanwhile blocks are set from another thread."""
+    """A source that gives nothing until the other's items are out holds them up for nobody; meanwhile blocks are set
+    from another thread."""
     stream = magbelu.Stream(TWO_CHAINS)
 
     async def silent(seen):
@@ -122,7 +127,8 @@ def streams_go_on_beside_a_silent_source():
 
 
 def streams_end_as_their_pieces_do():
-    """What a source's pieces fail with comes out of the loop, one that is left ends what is waited for, and a source without pieces ends the stream."""
+    """What a source's pieces fail with comes out of the loop, one that is left ends what is waited for, and a source
+    without pieces ends the stream."""
 
     async def failing():
         yield [1]
@@ -195,7 +201,8 @@ def streams_tell_how_far_blocks_are():
 
 
 def streams_drain_into_arrays():
-    """Items are written where the caller says, with their tags, however many lines these are; and nothing else is written."""
+    """Items are written where the caller says, with their tags, however many lines these are; and nothing else is
+    written."""
     stream, room = magbelu.Stream(CHAIN % (3 * ("short",))), array.array("h", [-1] * 3000)
     stream.feed("src", range(2000), tags=[(at, "a_key_of_16_bytes"[:16], at) for at in range(2000)])
     stream.settle()

@@ -1,4 +1,5 @@
-"""What python/magbelu makes of what it finds around it: of a library, of paths that may be no graph file, of a fork. tests/parts/c.sh calls it."""
+"""What python/magbelu makes of what it finds around it: of a library, of paths that may be no graph file, of a fork.
+tests/parts/c.sh calls it."""
 
 import ctypes
 import os
@@ -17,7 +18,8 @@ connect = [{ from = "src", to = "out" }]
 
 
 class Accepting:
-    """Stands for the library: each file has a source of shorts and a sink, which keeps its items where the file has a `vector_sink`."""
+    """Stands for the library: each file has a source of shorts and a sink, which keeps its items where the file has a
+    `vector_sink`."""
 
     def magbelu_bytes_open_stream(self, plant, file, file_len, *words):
         self.keeps = b"vector_sink" in ctypes.string_at(file, file_len)

@@ -1,4 +1,5 @@
-"""What a block of GNU Radio makes of a graph before it runs, over a stand-in for the library. tests/parts/gnuradio.sh calls it."""
+"""What a block of GNU Radio makes of a graph before it runs, over a stand-in for the library. tests/parts/gnuradio.sh
+calls it."""
 
 from __future__ import annotations
 
@@ -43,7 +44,8 @@ class Accepting:
 
 
 def graphs_have_outputs() -> None:
-    """A graph without an input is a block, but none without an output: GNU Radio would end that with the first of its inputs."""
+    """A graph without an input is a block, but none without an output: GNU Radio would end that with the first of its
+    inputs."""
     equal([len(it) for it in Flowgraph(text=TEXT).ports], [1, 1])
     equal([len(it) for it in Flowgraph(text='[[block]]\nname = "out"\nkind = "vector_sink"\ntype = "byte"').ports], [0, 1])
     for wrong in (TEXT.replace("vector_sink", "null_sink"), ""):
@@ -56,7 +58,8 @@ def graphs_have_outputs() -> None:
 
 
 def files_are_named() -> None:
-    """A block without a file, of a text in place of its path, and a copy of one, are refused by what is wrong with them."""
+    """A block without a file, of a text in place of its path, and a copy of one, are refused by what is wrong with
+    them."""
     for call, part in ((Flowgraph, "graph file"), (lambda: copy.copy(Flowgraph(text=TEXT)), "copied"), (lambda: copy.deepcopy(Flowgraph(text=TEXT)), "copied")):
         try:
             call()

@@ -93,7 +93,8 @@ def beside_blocks() -> None:
 
 
 def inputs_end() -> None:
-    """Where the blocks before the ports are done, the rest of the graph's stream still comes: here that of a delay, and of two inputs that end apart."""
+    """Where the blocks before the ports are done, the rest of the graph's stream still comes: here that of a delay, and
+    of two inputs that end apart."""
     (sink,) = ran(Flowgraph(text=chain("int", '"late", kind = "delay", n = 20000')), [source("int", range(1, 30001))])
     equal(list(sink.data()), [0] * 20000 + list(range(1, 30001)))
     rows = ['{ name = "%s", kind = "vector_source", type = "byte" }' % it for it in ("a", "b", "c")]
@@ -156,7 +157,8 @@ def tags_after_a_stop() -> None:
 
 
 def stalls() -> None:
-    """A graph that comes to rest before its end ends the block, behind all that it gave: out[n] = in[n] + in[2n + 1], where `src` holds four items."""
+    """A graph that comes to rest before its end ends the block, behind all that it gave: out[n] = in[n] + in[2n + 1],
+    where `src` holds four items."""
     text = (TOP / "examples" / "stall" / "graph.toml").read_text().partition("feed = ")[0]
     graph = Flowgraph(text=text)
     (sink,) = ran(graph, [source("byte", range(1, 21), repeat=True)])
@@ -184,7 +186,8 @@ def refused() -> None:
 
 
 def inputs_lack() -> None:
-    """Where nothing is connected to an input, GNU Radio says which, and goes on naming its own blocks where one of these lacks an input."""
+    """Where nothing is connected to an input, GNU Radio says which, and goes on naming its own blocks where one of
+    these lacks an input."""
     rows = ['{ name = "%s", kind = "vector_source", type = "byte" }' % it for it in ("left", "right")] + ['{ name = "sum", kind = "add", type = "byte" }']
     rows += ['{ name = "out", kind = "vector_sink", type = "byte" }']
     ends = '{ from = "left", to = "sum" }, { from = "right", to = "sum", to_port = 1 }, { from = "sum", to = "out" }'
@@ -212,7 +215,8 @@ def said_by(call: Callable[[], object], kind: type[Exception]) -> str:
 
 
 def tags() -> None:
-    """Tags come in and go out, at the offsets that the graph gives them and with the name of their source; those that it cannot have are counted."""
+    """Tags come in and go out, at the offsets that the graph gives them and with the name of their source; those that
+    it cannot have are counted."""
     text = (TOP / "examples" / "echo" / "graph.toml").read_text().partition("feed = ")[0]
     others = [tag(0, "mark", pmt.from_double(1.5)), tag(0, "two words", 1), tag(0, "seventeen_letters", 1), tag(3, "mark", pmt.PMT_T)]
     kept = [tag(1, "mark", 7), tag(1, "a.b-c", -(2**63)), tag(3, "sixteen__letters", 2**63 - 1)]
@@ -251,7 +255,8 @@ def settings() -> None:
 
 
 def taps() -> None:
-    """New taps are in force from an item on, and several values are set at once: 1 + 2 before item 4, and then 1 + 4; and 5 more."""
+    """New taps are in force from an item on, and several values are set at once: 1 + 2 before item 4, and then 1 + 4;
+    and 5 more."""
     rows = ['"fir", kind = "fir", taps = [1, 2]', '"add", kind = "add_const", value = 0']
     graph = Flowgraph(text=chain("short", *rows))
     graph.set_all({"add": 5})
@@ -282,7 +287,8 @@ def memory() -> None:
 
 
 def companion() -> None:
-    """A drawing with the block of Companion is built by grcc and runs: the ports are those of the file, and a variable sets a value."""
+    """A drawing with the block of Companion is built by grcc and runs: the ports are those of the file, and a variable
+    sets a value."""
     here = TOP / "tests" / "gnuradio"
     with tempfile.TemporaryDirectory() as room:
         for name in ("drawing.grc", "graph.toml"):

@@ -1,4 +1,5 @@
-"""docs/user/COVERAGE.md has a line for each block of the GNU Radio that is installed: `coverage.py` tells those that it lacks, and what else is wrong with the page.
+"""docs/user/COVERAGE.md has a line for each block of the GNU Radio that is installed: `coverage.py` tells those that it
+lacks, and what else is wrong with the page.
 
 Not counted, and without a line, are blocks whose name ends in the letters of float or complex streams, as `add_ff`.
 """
@@ -21,7 +22,8 @@ PAGE = TOP / "docs" / "user" / "COVERAGE.md"
 TOOLS = frozenset(("bindtool", "blocktool", "eng_arg", "eng_notation", "eng_option", "gr", "gr_unittest", "grc", "modtool"))
 BASES = frozenset(("basic_block", "block", "sync_block", "hier_block2"))
 FLOATS = re.compile(r"_[bsivpdz]*[fc][bsivpfcdz]*$")
-# What a line says: that a kind of its own stands for the block, that others do, that nothing does, or that it is not counted.
+# What a line says: that a kind of its own stands for the block, that others do, that nothing does, or that it is not
+# counted.
 SAYS = ("kind", "by", "no", "out")
 
 

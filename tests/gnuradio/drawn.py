@@ -18,7 +18,8 @@ class Fed(NamedTuple):
 
 
 class Drawn(NamedTuple):
-    """The text of a graph file without feeds, what its sources are fed in the order of the file, and its sinks with their types."""
+    """The text of a graph file without feeds, what its sources are fed in the order of the file, and its sinks with
+    their types."""
 
     text: str
     feeds: dict[str, Fed]
@@ -40,7 +41,8 @@ class Pen:
         self.chance = random.Random(seed)
         self.blocks: list[str] = []
         self.connects: list[str] = []
-        # Of each output its block, its port, its type, and how many items come out of it for each item of a source, at most.
+        # Of each output its block, its port, its type, and how many items come out of it for each item of a source, at
+        # most.
         self.outputs: list[tuple[str, int, str, int]] = []
         self.read: set[tuple[str, int]] = set()
 

@@ -1,5 +1,5 @@
-"""What stands for sources of GNU Radio that give items without end gives what these give, an item for each of a clock: `endless.py NAME FLOW..` tries the
-function of this name, as own.py does."""
+"""What stands for sources of GNU Radio that give items without end gives what these give, an item for each of a clock:
+`endless.py NAME FLOW..` tries the function of this name, as own.py does."""
 
 from __future__ import annotations
 
@@ -58,7 +58,8 @@ def shift_registers() -> None:
 
 
 def noise_of_the_usrp() -> None:
-    """lfsr_32k_source_s is a machine that gives the 4,094 bytes of its 2,047 shorts again and again, the high one first, for two items of the clock each."""
+    """lfsr_32k_source_s is a machine that gives the 4,094 bytes of its 2,047 shorts again and again, the high one
+    first, for two items of the clock each."""
     own, count = blocks.lfsr_32k_source_s(), 5000
     bit, held, shorts = 0, 0x7FFF, []
     for _ in range(2047):
@@ -77,7 +78,8 @@ def noise_of_the_usrp() -> None:
 
 
 def waves() -> None:
-    """sig_source_x is a pattern of a period, where that is 256 items or fewer and a power of two; one that is constant has one item."""
+    """sig_source_x is a pattern of a period, where that is 256 items or fewer and a power of two; one that is constant
+    has one item."""
 
     def trial(chance: random.Random) -> None:
         type, period, shift = typed(chance), 2 ** chance.randint(0, 8), chance.randint(0, 40)
@@ -92,7 +94,8 @@ def waves() -> None:
 
 
 def uniform() -> None:
-    """random_uniform_source_x of 2^k numbers is and_const and add_const of items that are as likely as one another, as those of /dev/urandom."""
+    """random_uniform_source_x of 2^k numbers is and_const and add_const of items that are as likely as one another, as
+    those of /dev/urandom."""
 
     def trial(chance: random.Random) -> None:
         type, bits = typed(chance), chance.randint(1, 6)
@@ -110,7 +113,8 @@ def uniform() -> None:
 
 
 def noise() -> None:
-    """fastnoise_source_x of 256 samples is a table of these, of bytes that are as likely as one another, as those of /dev/urandom."""
+    """fastnoise_source_x of 256 samples is a table of these, of bytes that are as likely as one another, as those of
+    /dev/urandom."""
 
     def trial(chance: random.Random) -> None:
         type, sort = chance.choice(["short", "int"]), chance.choice([analog.GR_UNIFORM, analog.GR_GAUSSIAN, analog.GR_LAPLACIAN])

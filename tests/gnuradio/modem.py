@@ -1,7 +1,9 @@
-"""The sender and the receiver of examples/receiver give what GNU Radio's blocks give: `modem.py FLOW..` runs both, with the words that start flow. The bits that are sent, those
-that are received with their marks, and the lines whose checksum is right have to be the same.
+"""The sender and the receiver of examples/receiver give what GNU Radio's blocks give: `modem.py FLOW..` runs both, with
+the words that start flow. The bits that are sent, those that are received with their marks, and the lines whose
+checksum is right have to be the same.
 
-Floats hold whole numbers of 24 bits. Where an item of the chain may have more, blocks for integers compute it, and its lowest bits go before it is divided.
+Floats hold whole numbers of 24 bits. Where an item of the chain may have more, blocks for integers compute it, and its
+lowest bits go before it is divided.
 """
 
 from __future__ import annotations
@@ -72,7 +74,8 @@ def divided(top: gr.top_block, of: Any, shift: int) -> Any:
 
 
 def filtered(top: gr.top_block, of: Any) -> Any:
-    """I or Q behind its filter, whose sums have fewer than 24 bits. With 1/128 more, a tie goes up, and nothing else goes elsewhere."""
+    """I or Q behind its filter, whose sums have fewer than 24 bits. With 1/128 more, a tie goes up, and nothing else
+    goes elsewhere."""
     taps = [float(it) for it in GRAPH["low_i"]["taps"]]
     scaled = (blocks.multiply_const_ff(1 / 64), blocks.add_const_ff(1 / 128), blocks.float_to_int())
     return chain(top, of, blocks.uchar_to_float(), blocks.add_const_ff(-128), filter.fir_filter_fff(4, taps), *scaled)

@@ -1,5 +1,6 @@
-"""What stands for blocks of GNU Radio gives what these give: `own.py NAME FLOW..` tries the function of this name, with the words that start flow. Parameters,
-items and tags are drawn by chance, and what is wanted comes out of GNU Radio's own block."""
+"""What stands for blocks of GNU Radio gives what these give: `own.py NAME FLOW..` tries the function of this name, with
+the words that start flow. Parameters, items and tags are drawn by chance, and what is wanted comes out of GNU Radio's
+own block."""
 
 from __future__ import annotations
 
@@ -52,7 +53,8 @@ class Given(NamedTuple):
 
 
 class Trial(NamedTuple):
-    """A graph whose sources are called in0, in1 and so on, what they are fed, and what its sinks out0, out1 and so on have to hold."""
+    """A graph whose sources are called in0, in1 and so on, what they are fed, and what its sinks out0, out1 and so on
+    have to hold."""
 
     graph: Graph
     inputs: Sequence[Stream]
@@ -91,7 +93,8 @@ def in_gnu_radio(block: Any, inputs: Sequence[Stream], outputs: Sequence[Port]) 
 
 
 def in_flow(flow: Sequence[str], trials: Sequence[Trial]) -> list[list[Given]]:
-    """What the graphs give, which run as one: the names of each begin with its number. A tag on a vector lies on its first item."""
+    """What the graphs give, which run as one: the names of each begin with its number. A tag on a vector lies on its
+    first item."""
     whole = Graph()
     for number, (graph, inputs, _, _) in enumerate(trials):
         whole.blocks += [Block("%d.%s" % (number, it.name), it.kind, it.settings) for it in graph.blocks]
@@ -163,7 +166,8 @@ def row(kinds: Sequence[Kind], fed: Stream, out: Port) -> Graph:
 
 
 def compare(own: Any, graph: Graph, inputs: Sequence[Stream], outputs: Sequence[Port], counts: Optional[Sequence[int]] = None, tags: bool = True) -> None:
-    """Has a graph give what GNU Radio's block gives: of each output all items, or only so many where there are counts, and all tags unless these differ."""
+    """Has a graph give what GNU Radio's block gives: of each output all items, or only so many where there are counts,
+    and all tags unless these differ."""
     wanted = in_gnu_radio(own, inputs, outputs)
     for port, count in enumerate(counts or []):
         items, marks = wanted[port]
@@ -204,7 +208,8 @@ def order_of(chance: random.Random, count: int) -> list[int]:
 
 
 def block_interleaver() -> None:
-    """blockinterleaver_xx is permute, in both directions, and of the bits of packed bytes between unpack_k_bits and pack_k_bits."""
+    """blockinterleaver_xx is permute, in both directions, and of the bits of packed bytes between unpack_k_bits and
+    pack_k_bits."""
 
     def trial(chance: random.Random) -> None:
         type, there, packed = typed(chance), chance.random() < 0.5, chance.random() < 0.5
@@ -345,7 +350,8 @@ def companding() -> None:
 
 
 def encoding() -> None:
-    """The encoders of mu-law and A-law give the bytes of all shorts, but for those from -7 to -1 by the A-law, which have another byte there."""
+    """The encoders of mu-law and A-law give the bytes of all shorts, but for those from -7 to -1 by the A-law, which
+    have another byte there."""
     for name, left_out in (("ulaw", range(0)), ("alaw", range(-7, 0))):
         fed = Stream("short", [it for it in range(-(2**15), 2**15) if it not in left_out], [(7, "mark", -1)])
         own = getattr(vocoder, name + "_encode_sb")()
@@ -353,7 +359,8 @@ def encoding() -> None:
 
 
 def selector() -> None:
-    """selector is a mute for each input and add: it ends with the shortest input, and an output that is not chosen has no items."""
+    """selector is a mute for each input and add: it ends with the shortest input, and an output that is not chosen has
+    no items."""
 
     def trial(chance: random.Random) -> None:
         type, ins, outs = typed(chance), chance.randint(1, 16), chance.randint(1, 4)
@@ -419,7 +426,8 @@ def delay() -> None:
 
 
 def probe_signal() -> None:
-    """The level of a probe_signal_x is the last item of a vector_sink, and that of a probe_signal_vx its last so many."""
+    """The level of a probe_signal_x is the last item of a vector_sink, and that of a probe_signal_vx its last so
+    many."""
 
     def trial(chance: random.Random) -> None:
         type, vector = typed(chance), chance.randint(2, 9)
@@ -439,8 +447,8 @@ def probe_signal() -> None:
 
 
 def coded(polynomials: Sequence[int], fed: Stream, first: Sequence[Kind] = ()) -> Graph:
-    """A graph of a convolutional code: what comes first, a descrambler for each polynomial, whose bit j is that of the item j before, with bit 0 set, and
-    interleave. One of the descramblers passes tags."""
+    """A graph of a convolutional code: what comes first, a descrambler for each polynomial, whose bit j is that of the
+    item j before, with bit 0 set, and interleave. One of the descramblers passes tags."""
     kinds = {"it%d" % at: it for at, it in enumerate(first)}
     names = ["in0", *kinds]
     connects = [" ".join(it) for it in zip(names, names[1:])]
@@ -463,7 +471,8 @@ def ccsds_encoder() -> None:
 
 
 def encoders() -> None:
-    """Of fec.encoder a streaming cc_encoder is a descrambler for each polynomial and interleave, a repetition_encoder is repeat, and a dummy_encoder nothing."""
+    """Of fec.encoder a streaming cc_encoder is a descrambler for each polynomial and interleave, a repetition_encoder
+    is repeat, and a dummy_encoder nothing."""
 
     def trial(chance: random.Random) -> None:
         frame, frames, rate = 8 * chance.randint(1, 10), chance.randint(0, 20), chance.randint(2, 6)
@@ -480,7 +489,8 @@ def encoders() -> None:
 
 
 def bit_orders() -> None:
-    """`order` is of both sides of repack_bits, and of the packed side alone of packed_to_unpacked and unpacked_to_packed; here whole rounds."""
+    """`order` is of both sides of repack_bits, and of the packed side alone of packed_to_unpacked and
+    unpacked_to_packed; here whole rounds."""
 
     def trial(chance: random.Random) -> None:
         type, endianness = typed(chance), chance.choice(["MSB", "LSB"])
@@ -530,7 +540,8 @@ def access_code() -> None:
 
 
 class Vectors:
-    """Trials of blocks of vectors, each vector as many items in a row. Tags are not looked at, since a rate puts them on items and not on vectors."""
+    """Trials of blocks of vectors, each vector as many items in a row. Tags are not looked at, since a rate puts them
+    on items and not on vectors."""
 
     def __init__(self, chance: random.Random) -> None:
         self.chance, self.type, self.wide = chance, typed(chance), chance.choice(["short", "int"])

@@ -1,5 +1,6 @@
-"""What stands for blocks of television gives what these give: `television.py NAME FLOW..` tries the function of this name, as own.py does. The registers, codes
-and orders are those of EN 300 744 (DVB-T), EN 302 307 (DVB-S2) and ITU-T J.83 B."""
+"""What stands for blocks of television gives what these give: `television.py NAME FLOW..` tries the function of this
+name, as own.py does. The registers, codes and orders are those of EN 300 744 (DVB-T), EN 302 307 (DVB-S2) and ITU-T
+J.83 B."""
 
 from __future__ import annotations
 
@@ -28,7 +29,8 @@ def packets(chance: random.Random, count: int) -> list[int]:
 
 
 def begins(own: Any, kinds: dict[str, Kind], connects: Sequence[str], fed: Stream, vector: int = 1, given: int = 1, taken: int = 1) -> None:
-    """Has blocks give what the block of GNU Radio gives, so many items for so many. The rest that it leaves is not fed."""
+    """Has blocks give what the block of GNU Radio gives, so many items for so many. The rest that it leaves is not
+    fed."""
     items = in_gnu_radio(own, [fed], [Port("byte", vector)])[0].items
     rounds = len(items) // given
     assert rounds > 0, "GNU Radio gives nothing"
@@ -66,7 +68,8 @@ def packed(bits: Iterator[int], count: int) -> int:
 
 
 def energy() -> None:
-    """dvbt_energy_dispersal is xor with a machine of the 1,504 bytes of eight packets, and dvbt_energy_descramble the same."""
+    """dvbt_energy_dispersal is xor with a machine of the 1,504 bytes of eight packets, and dvbt_energy_descramble the
+    same."""
     bits = register([1, 0, 0, 1, 0, 1, 0, 1, 0, 0, 0, 0, 0, 0, 0], [13, 14])
     spread = [255, *(packed(bits, 8) for _ in range(ROUND - 1))]
     spread = [it if at % PACKET or not at else 0 for at, it in enumerate(spread)]
@@ -81,8 +84,9 @@ def energy() -> None:
 
 
 def branches() -> None:
-    """dvbt_convolutional_interleaver is a delay for each branch between deinterleave and interleave, and dvbt_convolutional_deinterleaver, of 12 branches that
-    are 17 apart, the same with the delays in reverse order. What is still in the delays GNU Radio's blocks do not give."""
+    """dvbt_convolutional_interleaver is a delay for each branch between deinterleave and interleave, and
+    dvbt_convolutional_deinterleaver, of 12 branches that are 17 apart, the same with the delays in reverse order. What
+    is still in the delays GNU Radio's blocks do not give."""
 
     def trial(chance: random.Random) -> None:
         count, step, frame = 12, 17, 12 * 136
@@ -108,7 +112,8 @@ RATES = {"C1_2": ["XY"], "C2_3": ["XY", "Y"], "C3_4": ["XY", "Y", "X"], "C5_6": 
 
 
 def inner_coder() -> None:
-    """dvbt_inner_coder is unpack_k_bits, two descramblers, interleave, permute and keep_m_in_n for the bits that are sent, and pack_k_bits."""
+    """dvbt_inner_coder is unpack_k_bits, two descramblers, interleave, permute and keep_m_in_n for the bits that are
+    sent, and pack_k_bits."""
 
     def trial(chance: random.Random) -> None:
         rate, name = chance.choice(list(RATES)), chance.choice(list(BITS))
@@ -138,8 +143,8 @@ BRANCHES = {2: [0, 1], 4: [0, 2, 1, 3], 6: [0, 2, 4, 1, 3, 5]}
 
 
 def inner_interleaver() -> None:
-    """dvbt_bit_inner_interleaver is a permute of 126 for each bit of a symbol, between unpack_k_bits and deinterleave and interleave and pack_k_bits; so is
-    dvbt_bit_inner_deinterleaver."""
+    """dvbt_bit_inner_interleaver is a permute of 126 for each bit of a symbol, between unpack_k_bits and deinterleave
+    and interleave and pack_k_bits; so is dvbt_bit_inner_deinterleaver."""
 
     def trial(chance: random.Random) -> None:
         name, mode = chance.choice(list(BITS)), chance.choice([dtv.T2k, dtv.T8k])
@@ -159,7 +164,8 @@ def inner_interleaver() -> None:
 
 
 def frames() -> None:
-    """dvb_bbscrambler_bb and catv_randomizer_bb are xor with machines of a frame's bits or symbols, of which deinterleave and interleave make shorter ones."""
+    """dvb_bbscrambler_bb and catv_randomizer_bb are xor with machines of a frame's bits or symbols, of which
+    deinterleave and interleave make shorter ones."""
     bits = register([0, 0, 0, 0, 0, 0, 0, 1, 0, 1, 0, 1, 0, 0, 1][::-1], [13, 14])
     spread = [next(bits) for _ in range(58192)]
     symbols = [127, 127, 0]
@@ -190,8 +196,8 @@ def divided(byte: int) -> int:
 
 
 def packet_frames() -> None:
-    """catv_transport_framing_enc_bb is keep_m_in_n and crc_append, whose checksum a table of the first byte turns; atsc_pad is insert, and atsc_depad a
-    connection."""
+    """catv_transport_framing_enc_bb is keep_m_in_n and crc_append, whose checksum a table of the first byte turns;
+    atsc_pad is insert, and atsc_depad a connection."""
     keys = {"order": "msb_first", "bits": 8, "polynomial": 0x8D, "init": 0, "final_xor": 0x67, "n": PACKET - 1}
     framed = {
         "rest": Kind("keep_m_in_n", {"type": "byte", "m": PACKET - 1, "n": PACKET, "offset": 1}),

@@ -1,4 +1,5 @@
-"""What stands for blocks of GNU Radio's module trellis gives what these give: `trellises.py NAME FLOW..` tries the function of this name, as own.py does."""
+"""What stands for blocks of GNU Radio's module trellis gives what these give: `trellises.py NAME FLOW..` tries the
+function of this name, as own.py does."""
 
 from __future__ import annotations
 
@@ -55,7 +56,8 @@ class Row(gr.hier_block2):
 
 
 def encoder() -> None:
-    """encoder_xx is state_machine, between converters. One with blocks of items goes on from one to the next all the same."""
+    """encoder_xx is state_machine, between converters. One with blocks of items goes on from one to the next all the
+    same."""
 
     def trial(chance: random.Random) -> None:
         for letters in ("bb", "bs", "bi", "ss", "si", "ii"):
@@ -73,8 +75,8 @@ def encoder() -> None:
 
 
 def code() -> None:
-    """`magbelu.convolutional` has the tables of a trellis.fsm of polynomials, and with the other order those of a cc_encoder, whose bits unpack_k_bits gives. A
-    drawing has the polynomials themselves."""
+    """`magbelu.convolutional` has the tables of a trellis.fsm of polynomials, and with the other order those of a
+    cc_encoder, whose bits unpack_k_bits gives. A drawing has the polynomials themselves."""
 
     def trial(chance: random.Random) -> None:
         length, count = chance.randint(2, 8), chance.randint(1, 4)
@@ -95,7 +97,8 @@ def code() -> None:
 
 
 def path(chance: random.Random, made: Machine, most: int) -> dict[str, Any]:
-    """The parameters of a decoder's blocks: where no path leads to the end, GNU Radio's gives what it has left of others."""
+    """The parameters of a decoder's blocks: where no path leads to the end, GNU Radio's gives what it has left of
+    others."""
     steps, start = chance.randint(1, most), chance.choice([-1, chance.randrange(made.states)])
     end = chance.choice([-1, chance.choice(made.reached(start, steps))])
     return {"fsm_args": words(made), "block_size": steps, "init_state": start, "final_state": end}
@@ -120,7 +123,8 @@ class Points(NamedTuple):
 
 
 def viterbi_combined() -> None:
-    """viterbi_combined_xx is viterbi behind a multiply_const and an add_const for each output, and where there are dimensions deinterleave and add."""
+    """viterbi_combined_xx is viterbi behind a multiply_const and an add_const for each output, and where there are
+    dimensions deinterleave and add."""
 
     def trial(chance: random.Random) -> None:
         for letters in ("ib", "is", "ii", "sb", "ss", "si"):
@@ -157,7 +161,8 @@ def viterbi() -> None:
 
 
 def far() -> None:
-    """Metrics are exact where those in floats are rounded, and less than 10^9, which is infinite there: of two points that lie far apart the nearer is found."""
+    """Metrics are exact where those in floats are rounded, and less than 10^9, which is infinite there: of two points
+    that lie far apart the nearer is found."""
 
     def trial(chance: random.Random) -> None:
         table = [chance.randint(-9000, -4000), chance.randint(4000, 9000)]

@@ -1,11 +1,13 @@
 #!/usr/bin/env python3
-"""Tries flow-from-grc, as the part `grc` of ./test: `run.py list` prints the names of the cases, `run.py run ROOM` tries those that ROOM/wanted has.
+"""Tries flow-from-grc, as the part `grc` of ./test: `run.py list` prints the names of the cases, `run.py run ROOM`
+tries those that ROOM/wanted has.
 
-cases/      drawings, each with the graph file that it stands for, and what standard error has; with NAME.samples, also what each of its sinks holds in GNU Radio
-broken/     drawings that are refused, each with the line that says so
+cases/      drawings, each with the graph file that it stands for, and what standard error has; with NAME.samples, also
+what each of its sinks holds in GNU Radio broken/     drawings that are refused, each with the line that says so
 ../../examples/grc/   drawings with their graph files, and with files of samples
 
-Where flow is built (./build), the graphs run, and where GNU Radio is installed, grcc builds the drawings and they run there: both have the same samples.
+Where flow is built (./build), the graphs run, and where GNU Radio is installed, grcc builds the drawings and they run
+there: both have the same samples.
 """
 
 from __future__ import annotations
@@ -165,7 +167,8 @@ def calls() -> Iterator[Case]:
 
 
 def quotes() -> Iterator[Case]:
-    """What pages show of calls of flow-from-grc: from a line that begins with $ to the next, or to the end of the fence."""
+    """What pages show of calls of flow-from-grc: from a line that begins with $ to the next, or to the end of the
+    fence."""
     call = re.compile(r"^\$ (?:\./)?flow-from-grc (.*)\n((?:(?!```|\$ ).*\n)*)", re.M)
     for page in (TOP / "docs" / "user" / "FOR_GNU_RADIO_USERS.md", EXAMPLES / "README.md"):
         found = call.findall(page.read_text())
@@ -190,8 +193,8 @@ def sinks_of(report: str) -> List[str]:
     return sorted(lines)
 
 
-# Of this drawing GNU Radio itself gives too few items now and then, on a machine that is at work: its sinks were compared by hand. Each of its blocks stands beside flow's
-# in tests/gnuradio/own.py.
+# Of this drawing GNU Radio itself gives too few items now and then, on a machine that is at work: its sinks were
+# compared by hand. Each of its blocks stands beside flow's in tests/gnuradio/own.py.
 UNSTEADY = {"frames"}
 
 

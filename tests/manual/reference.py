@@ -24,7 +24,8 @@ def headings(folder: Path) -> Set[str]:
 
 
 def c_names(top: Path) -> Iterator[str]:
-    """The functions that callers call, and what they hand over. Those that no comment describes, or that it hides, are for the header alone."""
+    """The functions that callers call, and what they hand over. Those that no comment describes, or that it hides, are
+    for the header alone."""
     text = (top / "c/magbelu.h").read_text()
     own = re.findall(r"(?m)^static inline .*?\b(magbelu_\w+)\(", text) + re.findall(r"(?m)^struct (\w+) \{", text)
     hidden = re.findall(r"/\* \(not for callers\) \*/\n(.*?)(?=\n/\*)", text, flags=re.DOTALL)

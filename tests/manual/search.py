@@ -1,6 +1,7 @@
 #!/usr/bin/env python3
-"""search.py SITE QUESTIONS: tells each question to which the search of the manual does not answer with the page wanted, or a part of it, among the first three pages. It
-ranks by python3-lunr, which Debian's mkdocs needs, as search/worker.js of the site does by lunr.js. A line of QUESTIONS has a page, and the question behind it."""
+"""search.py SITE QUESTIONS: tells each question to which the search of the manual does not answer with the page wanted,
+or a part of it, among the first three pages. It ranks by python3-lunr, which Debian's mkdocs needs, as search/worker.js
+of the site does by lunr.js. A line of QUESTIONS has a page, and the question behind it."""
 
 import json
 import re
@@ -15,7 +16,8 @@ LOOKED_AT = 3
 
 
 def words_of(text: str) -> str:
-    """A text as the search takes it: its words alone, and behind the parts of a name, as of Plant::feed, the whole as one word."""
+    """A text as the search takes it: its words alone, and behind the parts of a name, as of Plant::feed, the whole as
+    one word."""
     named = re.sub(r"\w+(?:::|_)[\w:]+", lambda name: name.group() + " " + re.sub("[:_]", "", name.group()), text, flags=re.ASCII)
     return re.sub(r"[\W_]+", " ", named, flags=re.ASCII)
 

@@ -1,5 +1,5 @@
-"""Graphs that are drawn by chance, of all kinds whose items rest on no input from long ago, and whose rates balance: each can be cut. Sources have rates of their own,
-with tags close together, and outputs hold few items."""
+"""Graphs that are drawn by chance, of all kinds whose items rest on no input from long ago, and whose rates balance:
+each can be cut. Sources have rates of their own, with tags close together, and outputs hold few items."""
 
 import random
 from fractions import Fraction
@@ -20,7 +20,8 @@ class Pen:
     def __init__(self, seed):
         self.chance = random.Random(seed)
         self.blocks, self.connects = [], []
-        # Of each output its block, its port, its type, and its pace: how many items it has for each item of the slowest source.
+        # Of each output its block, its port, its type, and its pace: how many items it has for each item of the slowest
+        # source.
         self.outputs = []
         self.read = set()
 
@@ -219,7 +220,8 @@ BYTES = {
     "crc_check": checked,
 }
 FILTERS = {"fir": fir, "interp_fir": interp_fir}
-# Of each kind with one input and one output its parameters, and how many items a firing takes and gives, or numbers that are in this ratio.
+# Of each kind with one input and one output its parameters, and how many items a firing takes and gives, or numbers
+# that are in this ratio.
 ONE = {
     **{kind: value for kind in ("add_const", "multiply_const", "divide_const", "and_const", "or_const", "xor_const")},
     "scale": lambda pen, type: ({"factor": pen.item("short"), "shift": pen.chance.randint(0, 31)}, 1, 1),

@@ -1,6 +1,6 @@
 #!/usr/bin/env python3
-"""gnu_radio_names.py WORD..: that the program, which these words start, answers GNU Radio's names of blocks and parameters with those by which flow-from-grc
-writes them into a graph file."""
+"""gnu_radio_names.py WORD..: that the program, which these words start, answers GNU Radio's names of blocks and
+parameters with those by which flow-from-grc writes them into a graph file."""
 
 import pathlib
 import subprocess
@@ -39,7 +39,8 @@ VALUES = {"enabled": True, "append": False, "bits_per_byte": 1, "num_inputs": 1}
 
 
 class AnySettings:
-    """Settings that give what is asked for, each number another one, so that it tells by which name it was asked for."""
+    """Settings that give what is asked for, each number another one, so that it tells by which name it was asked
+    for."""
 
     def __init__(self) -> None:
         self.block = DrawnBlock("a", "", 0, "enabled", {})

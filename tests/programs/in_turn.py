@@ -1,5 +1,6 @@
 #!/usr/bin/env python3
-"""Writes files to pipes in turn, so many bytes of each at a time, as a sender does that has one thread: `in_turn.py COUNT FILE PIPE FILE PIPE ..`."""
+"""Writes files to pipes in turn, so many bytes of each at a time, as a sender does that has one thread: `in_turn.py
+COUNT FILE PIPE FILE PIPE ..`."""
 
 import pathlib
 import sys

@@ -1,5 +1,6 @@
 #!/usr/bin/env python3
-"""picture.py SCRIPT: holds what the script draws of a part of a trace against rectangles that were worked out by hand. It prints what is wrong, and ends in status 1 then."""
+"""picture.py SCRIPT: holds what the script draws of a part of a trace against rectangles that were worked out by hand.
+It prints what is wrong, and ends in status 1 then."""
 
 import json
 import subprocess
@@ -8,7 +9,8 @@ import tempfile
 import xml.etree.ElementTree
 
 SVG = "{http://www.w3.org/2000/svg}"
-# The blocks, of which one has a name that is a word of the format too; and their turns and waits: the track, the beginning and the length.
+# The blocks, of which one has a name that is a word of the format too; and their turns and waits: the track, the
+# beginning and the length.
 BLOCKS = ["thread_name", "out", "a&b"]
 SPANS = [
     ("turn", 1, 0.0, 10.0),
@@ -20,7 +22,8 @@ SPANS = [
     ("wait", 3, 0.25, 29.75),
     ("turn", 3, 15.0, 0.0),
 ]
-# From 10 to 20 microseconds, each of 87 pixels, what is cut ends at the edge, and what only touches it is not there. (What took no time is 0.3 pixels wide.)
+# From 10 to 20 microseconds, each of 87 pixels, what is cut ends at the edge, and what only touches it is not there.
+# (What took no time is 0.3 pixels wide.)
 WANTED = [
     ("thread_name: 0.5 us", "90.00", "4", "43.50"),
     ("thread_name: 9.0 us", "177.00", "4", "783.00"),
@@ -50,7 +53,8 @@ def made(*words):
 
 
 def drawn(*words):
-    """The rectangles of a picture but for the ground: what each tells who points at it, and its left, its top and its width; and the texts."""
+    """The rectangles of a picture but for the ground: what each tells who points at it, and its left, its top and its
+    width; and the texts."""
     top = made(*words)
     rectangles = [(it[0].text, it.get("x"), it.get("y"), it.get("width")) for it in top.iter(SVG + "rect") if len(it)]
     return rectangles, [it.text for it in top.iter(SVG + "text")]

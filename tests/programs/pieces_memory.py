@@ -1,7 +1,8 @@
 #!/usr/bin/env python3
-"""pieces_memory.py FIRST ALL PROGRAM..: that a run in pieces between pipes, by the program whose words are given, has some pieces in memory, however long the stream is.
-While nobody reads what it writes, it takes no more than a piece for each thread and one more; and from when the FIRST pieces are read until ALL are, the most memory that it had
-grows by less than a piece for each thread. Prints what is wrong."""
+"""pieces_memory.py FIRST ALL PROGRAM..: that a run in pieces between pipes, by the program whose words are given, has
+some pieces in memory, however long the stream is. While nobody reads what it writes, it takes no more than a piece for
+each thread and one more; and from when the FIRST pieces are read until ALL are, the most memory that it had grows by
+less than a piece for each thread. Prints what is wrong."""
 
 import os
 import pathlib
@@ -82,7 +83,8 @@ def read(stream, count):
 
 
 def measured(folder, first, pieces):
-    """How many bytes a run on so many pieces takes while nobody reads what it writes, and the most memory that it has until the first are read, and until all but one are."""
+    """How many bytes a run on so many pieces takes while nobody reads what it writes, and the most memory that it has
+    until the first are read, and until all but one are."""
     words = [*sys.argv[3:], "run", "--jobs", str(THREADS), "-i", "in=-", "-o", "out=-", "graph.toml"]
     with subprocess.Popen(words, cwd=folder, env=KEEPS_NOTHING, stdin=subprocess.PIPE, stdout=subprocess.PIPE, stderr=subprocess.DEVNULL) as running:
         sender = Sender(running.stdin, pieces * PIECE)

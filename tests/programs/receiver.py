@@ -1,7 +1,9 @@
 #!/usr/bin/env python3
-"""receiver.py CASE TOP START..: tries examples/receiver and docs/user/TUTORIAL.md of the checkout TOP, with a program that these words start, and says what is wrong.
+"""receiver.py CASE TOP START..: tries examples/receiver and docs/user/TUTORIAL.md of the checkout TOP, with a program
+that these words start, and says what is wrong.
 
-page        each command of the page, as it stands there, writes what the page shows, and the files of each step have the items that receiver_model.py computes;
+page        each command of the page, as it stands there, writes what the page shows, and the files of each step have
+the items that receiver_model.py computes;
             the plots that come are those of the page
 errors      ber.txt has the counts that the model makes of the same recordings
 pictures    the pictures of the graphs show what `flow draw` writes
@@ -21,7 +23,8 @@ LONGEST = 300
 
 
 def calls_of(page: Path) -> Iterator[Tuple[str, str]]:
-    """The commands behind a `$` in fences without a language, each with what it shows. One that ends in `|` goes on in the next line."""
+    """The commands behind a `$` in fences without a language, each with what it shows. One that ends in `|` goes on in
+    the next line."""
     for fence in re.findall(r"(?ms)^```\n(.*?)^```$", page.read_text()):
         for call in re.split(r"(?m)^\$ ", fence)[1:]:
             lines = call.splitlines(keepends=True)
@@ -108,7 +111,8 @@ def numbers_of(picture: str) -> Tuple[str, List[float]]:
 
 
 def plots_differ(top: Path) -> Iterator[str]:
-    """Draws the plots of the files that the commands made, and tells those that the page does not show. A pixel more or less is none."""
+    """Draws the plots of the files that the commands made, and tells those that the page does not show. A pixel more or
+    less is none."""
     subprocess.run([sys.executable, top / "examples/receiver/plots.py", "."], check=True, timeout=LONGEST)
     plots = sorted(Path(".").glob("tutorial_*.svg"))
     if len(plots) != 6:

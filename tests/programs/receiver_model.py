@@ -1,4 +1,5 @@
-"""The sender and the steps of examples/receiver in numpy: the items that the equations of the kinds give, in whole numbers, and the tables from what they stand for."""
+"""The sender and the steps of examples/receiver in numpy: the items that the equations of the kinds give, in whole
+numbers, and the tables from what they stand for."""
 
 import tomllib
 import zlib
@@ -137,7 +138,8 @@ def coded(levels_of_bits: Items) -> Items:
 
 
 def decoded(levels_of_bits: Items) -> Items:
-    """Step 6, its decoder: of each frame the bits of the path from state 0 to state 0 whose outputs have the greatest sum of levels, where an output of 0 counts as less."""
+    """Step 6, its decoder: of each frame the bits of the path from state 0 to state 0 whose outputs have the greatest
+    sum of levels, where an output of 0 counts as less."""
     pairs = levels_of_bits.reshape(-1, STEPS, 2)
     # (state s has the last six bits, the newest at bit 5: it comes of two states, by the bit that it has there)
     states = numpy.arange(64)

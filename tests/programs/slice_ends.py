@@ -1,8 +1,10 @@
 #!/usr/bin/env python3
-"""slice_ends.py killed|tags|bad|threads PROGRAM..: runs in slices that end before their time, by the program whose words are given. `killed`: one in pieces that is
-killed leaves a beginning, and one that goes on with it gives the whole, with tags too. `tags`: so does one that goes on with items and lines of tags that are cut anywhere.
-`bad`: an input that ends within an item, shrinks or grows meanwhile, a full disk, two outputs of one path, two slices into one file, and marks out of order, where a run
-in pieces, or the slice that comes to it, ends as one on one thread does. `threads`: which runs take a thread for each processor by themselves. Prints what differs."""
+"""slice_ends.py killed|tags|bad|threads PROGRAM..: runs in slices that end before their time, by the program whose
+words are given. `killed`: one in pieces that is killed leaves a beginning, and one that goes on with it gives the
+whole, with tags too. `tags`: so does one that goes on with items and lines of tags that are cut anywhere. `bad`: an
+input that ends within an item, shrinks or grows meanwhile, a full disk, two outputs of one path, two slices into one
+file, and marks out of order, where a run in pieces, or the slice that comes to it, ends as one on one thread does.
+`threads`: which runs take a thread for each processor by themselves. Prints what differs."""
 
 import os
 import pathlib
@@ -50,7 +52,8 @@ def bytes_of(count):
 
 
 def marks_of(count):
-    """Lines of marks on so many items: on some none for long, and on others several, of which two come to one item of a filter, or more."""
+    """Lines of marks on so many items: on some none for long, and on others several, of which two come to one item of a
+    filter, or more."""
     rng, lines, at = random.Random(count), [], 0
     while at < count:
         lines += ["@%d:k=%d\n" % (at, rng.randint(-9, 9)) for _ in range(rng.choice([1, 1, 3]))]
@@ -156,7 +159,8 @@ def same_item(lines):
 
 
 def cut_outputs(items, tags):
-    """What may be left of the items of a sink and of the lines of its tags: what is left, and of each file its bytes, or None where it is missing."""
+    """What may be left of the items of a sink and of the lines of its tags: what is left, and of each file its bytes,
+    or None where it is missing."""
     lines = tags.splitlines(keepends=True)
     half, line = len(items) // 2, len(b"".join(lines[: len(lines) // 2]))
     return [
@@ -331,7 +335,8 @@ def threads_of(folder, *more):
 
 
 def threads(path):
-    """A run between files takes as many threads as `--jobs` would with one for each processor, where it is long enough and all its blocks forget."""
+    """A run between files takes as many threads as `--jobs` would with one for each processor, where it is long enough
+    and all its blocks forget."""
     folder = Folder(path)
     processors = len(os.sched_getaffinity(0))
     if processors == 1:

@@ -1,8 +1,10 @@
 #!/usr/bin/env python3
-"""Runs graphs that are drawn by chance whole and in parts, by the program whose words are given. What slices write, one behind the other, is what the whole run writes,
-and so is what runs in pieces write, of files and of pipes. Of every fifth graph, so is a run from an item on, one that goes on with cut outputs, or one in pieces that is
-killed and goes on. A graph that is not cut is refused. Prints what differs. The environment variable SLICED_GRAPHS says how many graphs are drawn of blocks that forget,
-300 if it is not there; of any blocks there are a tenth of these, and a twentieth that count. As many are run side by side as there are processors."""
+"""Runs graphs that are drawn by chance whole and in parts, by the program whose words are given. What slices write, one
+behind the other, is what the whole run writes, and so is what runs in pieces write, of files and of pipes. Of every
+fifth graph, so is a run from an item on, one that goes on with cut outputs, or one in pieces that is killed and goes
+on. A graph that is not cut is refused. Prints what differs. The environment variable SLICED_GRAPHS says how many graphs
+are drawn of blocks that forget, 300 if it is not there; of any blocks there are a tenth of these, and a twentieth that
+count. As many are run side by side as there are processors."""
 
 import concurrent.futures
 import os
@@ -37,7 +39,8 @@ def call(folder, *words):
 
 
 def write(folder, graph, rng):
-    """The files of a graph: its own, and that of each source, of which some end early, with its marks. Returns the words that name the inputs."""
+    """The files of a graph: its own, and that of each source, of which some end early, with its marks. Returns the
+    words that name the inputs."""
     folder.joinpath("graph.toml").write_text(graph.text, encoding="utf-8")
     words = []
     for name, fed in graph.feeds.items():
@@ -149,7 +152,8 @@ def pieces_differ_by(folder, graph, inputs, whole, first, words):
 
 
 def send(folder, names, rng):
-    """Writes files to pipes of their names with `.pipe` behind, some bytes of each in turn, and pauses now and then. Those whose files are at their end are closed."""
+    """Writes files to pipes of their names with `.pipe` behind, some bytes of each in turn, and pauses now and then.
+    Those whose files are at their end are closed."""
     rest = {name: folder.joinpath(name).read_bytes() for name in names}
     pipes = {name: open(folder.joinpath("%s.pipe" % name), "wb", buffering=0) for name in names}
     # (a pipe holds the whole of a file, so that it matters to no write which source is read)
@@ -214,8 +218,8 @@ def killed_differs(folder, graph, inputs, whole, rng):
 
 
 def counted(seed):
-    """A graph with a head and an additive scrambler: the head ends before the items do, at their end or behind it, and the register has the fewest bits, the most or
-    some."""
+    """A graph with a head and an additive scrambler: the head ends before the items do, at their end or behind it, and
+    the register has the fewest bits, the most or some."""
     rng = random.Random(seed)
     length, bits = rng.choice([0, 1, 50, 600, 3000]), rng.choice([2, 3, 17, 31, 32])
     mask = rng.choice([1, 2 ** (bits - 1), 2**bits - 1, rng.randint(1, 2**bits - 1)])

@@ -1,5 +1,6 @@
 #!/usr/bin/env python3
-"""Live runs between files, by the program whose words stand behind the name of a case: what lines ask while items stream, and the replies. Prints what is wrong."""
+"""Live runs between files, by the program whose words stand behind the name of a case: what lines ask while items
+stream, and the replies. Prints what is wrong."""
 
 import os
 import pathlib
@@ -16,7 +17,8 @@ FORMATS = {"byte": "B", "short": "h", "int": "i"}
 # So many items a source is given between two settings, and so many settings are made.
 PIECE = 3000
 SETTINGS = 8
-# A stop takes so many seconds at most, beside a round of the blocks, at the best of a few. (A program with checks is slower than a proved one by far.)
+# A stop takes so many seconds at most, beside a round of the blocks, at the best of a few. (A program with checks is
+# slower than a proved one by far.)
 SOON = 0.05
 STOPS = 5
 # A stream that is set for so many seconds, each hundredth of one or, if they are given, each second, grows by so many kilobytes at most, and has so many. A program with
@@ -25,7 +27,8 @@ LONG, PAUSE = (float(os.environ["SPOKEN_SECONDS"]), 1) if "SPOKEN_SECONDS" in os
 GROWTH, MOST = 16384, 32768
 KEEPS_NOTHING = {"ASAN_OPTIONS": "quarantine_size_mb=0:thread_local_quarantine_size_kb=0"}
 
-# Of each graph its type, the blocks between source and sink, with their parameters, the one that is set, and what it is set to.
+# Of each graph its type, the blocks between source and sink, with their parameters, the one that is set, and what it is
+# set to.
 GRAPHS = [
     ("byte", ["add_const value = 1"], 0, [[3], [200]]),
     ("short", ["multiply_const value = 3"], 0, [[-2], [7]]),
@@ -66,7 +69,8 @@ def graph(item, blocks):
 
 
 class Live:
-    """A live run in a folder, from the pipe `in` to the file `out`, with lines in the pipe `lines` and replies from the pipe `said`."""
+    """A live run in a folder, from the pipe `in` to the file `out`, with lines in the pipe `lines` and replies from the
+    pipe `said`."""
 
     def __init__(self, program, folder, *words):
         self.folder = folder
@@ -121,7 +125,8 @@ def whole(program, folder, settings, items):
 
 
 def settings(program, folder):
-    """Lines set a block while items stream; a script with the same settings at the items of the replies gives the same."""
+    """Lines set a block while items stream; a script with the same settings at the items of the replies gives the
+    same."""
     rng = random.Random(7)
     for number, (item, blocks, which, values) in enumerate(GRAPHS):
         here = folder / str(number)
@@ -199,7 +204,8 @@ def closes(program, folder):
 
 
 def lines(program, folder):
-    """Lines that are no requests are refused, and the run goes on; so it does at the end of the lines of one that wrote them."""
+    """Lines that are no requests are refused, and the run goes on; so it does at the end of the lines of one that wrote
+    them."""
     (folder / "graph.toml").write_text(graph("byte", ["add_const value = 1", "keep_one_in_n n = 2"]), encoding="utf-8")
     live = Live(program, folder)
     source = open(folder / "in", "wb", buffering=0)

@@ -1,7 +1,8 @@
 #!/usr/bin/env python3
-"""trace.py TRACE STATS MOST: holds a trace of the program against the times of the same run, which it told by --stats=json in one line behind others, and against the
-most turns and waits that it may have. Where none is left out it looks at each block: its track, its turns, which do not overlap, and how often it fired in
-them. It prints what is wrong, and ends in status 1 then."""
+"""trace.py TRACE STATS MOST: holds a trace of the program against the times of the same run, which it told by
+--stats=json in one line behind others, and against the most turns and waits that it may have. Where none is left out it
+looks at each block: its track, its turns, which do not overlap, and how often it fired in them. It prints what is
+wrong, and ends in status 1 then."""
 
 import json
 import sys

@@ -111,7 +111,8 @@ def added_and_joined() -> None:
 
 
 def dropped() -> None:
-    """A drawing of Companion that is dropped on the page becomes the graph file that flow-from-grc makes of it, and one that is none is refused."""
+    """A drawing of Companion that is dropped on the page becomes the graph file that flow-from-grc makes of it, and one
+    that is none is refused."""
     drop = """
         const data = new DataTransfer();
         data.items.add(new File([arguments[0]], arguments[1]));
@@ -163,7 +164,8 @@ async def saving(server: Server, at: pathlib.Path) -> None:
 
 
 def saved() -> None:
-    """A text is saved through a link, with the mode of the file; one that another program wrote is not replaced, and a text that is refused does not run."""
+    """A text is saved through a link, with the mode of the file; one that another program wrote is not replaced, and a
+    text that is refused does not run."""
     folder, graph, items, _ = folder_with()
     link, at = pathlib.Path(graph + ".link"), pathlib.Path(graph)
     with folder:

@@ -1,4 +1,5 @@
-"""What is given to the page and taken from it: raw items dropped on a source, items that are saved, blocks that are watched; and what several pages, and pages of several sizes, show."""
+"""What is given to the page and taken from it: raw items dropped on a source, items that are saved, blocks that are
+watched; and what several pages, and pages of several sizes, show."""
 
 from __future__ import annotations
 
@@ -27,7 +28,8 @@ DROP = """
 
 
 def drops_items() -> None:
-    """Raw items that are dropped on a source are what the next run is fed, and its script has them; elsewhere they are none."""
+    """Raw items that are dropped on a source are what the next run is fed, and its script has them; elsewhere they are
+    none."""
     import magbelu
 
     folder, graph, items, out = folder_with()
@@ -70,7 +72,8 @@ def graph_before_frames() -> None:
 
 
 def input_guarded() -> None:
-    """Who lacks the token, or is a page of another origin, feeds nothing; and what is fed to a block that is none leaves the run as it is."""
+    """Who lacks the token, or is a page of another origin, feeds nothing; and what is fed to a block that is none
+    leaves the run as it is."""
     folder, graph, items, _ = folder_with()
     with folder, Server("-i", "src=" + items, graph) as server:
         own, here = own_path(server), "http://127.0.0.1:%d" % server.port
@@ -113,7 +116,8 @@ connect = [{ from = "src", to = "add" }, { from = "add", to = "more" }, { from =
 
 
 def watches() -> None:
-    """The command shows blocks as it says, by sinks behind them, of which the file knows nothing until it is saved; and so does the page."""
+    """The command shows blocks as it says, by sinks behind them, of which the file knows nothing until it is saved; and
+    so does the page."""
     text = CHAIN
     folder, graph, items, _ = folder_with(text, array.array("h", [1, 2, 3]).tobytes())
     with folder, Server("-i", "src=" + items, "-w", "src=numbers", "-w", "src=bits", "-w", "out=spectrum", graph) as server, browser() as driver:
@@ -138,7 +142,8 @@ def watches() -> None:
 
 
 def two_pages() -> None:
-    """Two pages show one run: what is set, stepped and begun anew in one is seen in the other, which stays when the first is closed in the midst."""
+    """Two pages show one run: what is set, stepped and begun anew in one is seen in the other, which stays when the
+    first is closed in the midst."""
     folder, graph, items, _ = folder_with()
     told, field = "figure[data-sink='out'] .told", ".setting[data-block='add'] input[type=number]"
     with folder, Server("--paused", "-i", "src=" + items, "--rate", "2000", graph) as server, browser() as driver:
@@ -175,8 +180,8 @@ def two_pages() -> None:
 
 
 def names_with_markup() -> None:
-    """Markup in the name of a block, of a kind or of a sink, in a parameter, in a tag's key or in what is waited for is shown as text. (The library refuses most of these
-    names: what a page draws is not to rest on that.)"""
+    """Markup in the name of a block, of a kind or of a sink, in a parameter, in a tag's key or in what is waited for is
+    shown as text. (The library refuses most of these names: what a page draws is not to rest on that.)"""
     script = """
         const [bad, done] = arguments, at = document.body.appendChild(document.createElement("div"));
         const load = (it) => import(location.href + it);
@@ -206,7 +211,8 @@ def names_with_markup() -> None:
 
 
 def readable() -> None:
-    """At 1,280 and at 2,560 pixels nothing runs out of the page, no control lies on another, and no text is below 11 pixels."""
+    """At 1,280 and at 2,560 pixels nothing runs out of the page, no control lies on another, and no text is below 11
+    pixels."""
     script = """
         const found = [];
         if (document.documentElement.scrollWidth > innerWidth) found.push("the page is wider than the window");

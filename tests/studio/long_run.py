@@ -1,6 +1,7 @@
-"""`long_run.py SECONDS [ITEMS]` runs a graph behind a page in the browser for so long, at so many items a second, 10 million if none are said. The page shows its levels, spectrum and
-waterfall. Each ten seconds it says how many items went through since, how much memory the server has, and how long a processor worked for each item; and at the end whether the
-output of -o has each of them."""
+"""`long_run.py SECONDS [ITEMS]` runs a graph behind a page in the browser for so long, at so many items a second, 10
+million if none are said. The page shows its levels, spectrum and waterfall. Each ten seconds it says how many items
+went through since, how much memory the server has, and how long a processor worked for each item; and at the end
+whether the output of -o has each of them."""
 
 from __future__ import annotations
 

@@ -1,4 +1,5 @@
-"""What one looks at in the page: the drawing beside that of the library, parameters, what blocks wait for, and what stands at the pointer."""
+"""What one looks at in the page: the drawing beside that of the library, parameters, what blocks wait for, and what
+stands at the pointer."""
 
 from __future__ import annotations
 
@@ -24,7 +25,8 @@ CANVAS, LEFT, RIGHT, POINTED = "figure[data-sink='out'] canvas", 62, 10, "figure
 
 
 def drawn_as_draw() -> None:
-    """The page draws the blocks and the connections that the library draws, with their types and the rooms of their buffers."""
+    """The page draws the blocks and the connections that the library draws, with their types and the rooms of their
+    buffers."""
     blocks = "return [...document.querySelectorAll('#graph .block')].map((it) => [it.dataset.block, ...[...it.querySelectorAll('text')].slice(0, 2).map((text) => text.textContent)])"
     lines = "return [...document.querySelectorAll('#graph path.line > title')].map((it) => it.textContent)"
     folder, _, items, _ = folder_with(items=recording(1))

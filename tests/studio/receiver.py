@@ -1,6 +1,8 @@
-"""`receiver.py FOLDER [COMMAND EXAMPLE]` shows the receiver of examples/receiver in the page: there are a spectrum, a waterfall and bits, and a filter that is turned in
-the page changes them. It says how long each took, fails where the first took more than three seconds of the command, and leaves a picture of before and one of after. COMMAND
-is magbelu-studio as it is installed, and EXAMPLE the folder with the installed example; without them it is those of the checkout."""
+"""`receiver.py FOLDER [COMMAND EXAMPLE]` shows the receiver of examples/receiver in the page: there are a spectrum, a
+waterfall and bits, and a filter that is turned in the page changes them. It says how long each took, fails where the
+first took more than three seconds of the command, and leaves a picture of before and one of after. COMMAND is
+magbelu-studio as it is installed, and EXAMPLE the folder with the installed example; without them it is those of the
+checkout."""
 
 from __future__ import annotations
 
@@ -15,7 +17,8 @@ from typing import Any
 from browser import TOP, Server, browser, click, comes_to, numbers_of, text_of, until
 
 EXAMPLE = TOP / "examples/receiver" if len(sys.argv) < 4 else pathlib.Path(sys.argv[3])
-#: How many pairs of I and Q are a second, and how many are a bit; and in Hz how far a 1 is above the carrier, and a 0 below it.
+#: How many pairs of I and Q are a second, and how many are a bit; and in Hz how far a 1 is above the carrier, and a 0
+#: below it.
 RATE, SAMPLES, DEVIATION = 256_000, 32, 4_000
 LEVEL = 40
 #: How many pairs there are before the signal, by which the graph knows where the bits and frames begin.
@@ -23,12 +26,14 @@ BEFORE = 990
 #: How the command shows what the filter of I gives, and the bits before they are thinned.
 WATCHED = ("low_i=spectrum", "low_i=waterfall", "slice=bits")
 NONE = " ".join(["0"] * 40)
-#: Within how many seconds of the command all is drawn, in a browser that runs already, on a machine that does nothing else.
+#: Within how many seconds of the command all is drawn, in a browser that runs already, on a machine that does nothing
+#: else.
 WITHIN = 3
 
 
 def recording(repeats: int) -> bytes:
-    """The bytes that rtl_sdr writes of the lines of the example, without noise, again and again: silence, alternating bits, and their frames."""
+    """The bytes that rtl_sdr writes of the lines of the example, without noise, again and again: silence, alternating
+    bits, and their frames."""
     import magbelu
 
     (sent,), _ = magbelu.run_items((EXAMPLE / "sender.toml").read_bytes(), [("text", (EXAMPLE / "text.txt").read_bytes())], ["bits"])
@@ -77,7 +82,8 @@ def turn(driver: Any, taps: str) -> int:
 
 
 def receives(driver: Any, folder: str) -> tuple[float, float]:
-    """Starts the command, and gives after how many seconds all was drawn, and how long it took from there until the filter had changed it."""
+    """Starts the command, and gives after how many seconds all was drawn, and how long it took from there until the
+    filter had changed it."""
     path = pathlib.Path(folder) / "recording.u8"
     path.write_bytes(recording(150))
     words = [it for watched in WATCHED for it in ("-w", watched)]
@@ -105,7 +111,8 @@ def receives(driver: Any, folder: str) -> tuple[float, float]:
 
 
 def receiver() -> None:
-    """Spectrum, waterfall and bits of the receiver as the command says, which a filter changes that is turned in the page."""
+    """Spectrum, waterfall and bits of the receiver as the command says, which a filter changes that is turned in the
+    page."""
     with tempfile.TemporaryDirectory() as folder, browser(1280, 1000) as driver:
         print("drawn after %.1f seconds, changed after %.1f more" % receives(driver, folder))
 

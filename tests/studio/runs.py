@@ -203,7 +203,8 @@ async def until_held(server: Server, count: int) -> None:
 
 
 def ended() -> None:
-    """A command that is ended in the midst of a run has written all that a page has seen, and a beginning of the whole."""
+    """A command that is ended in the midst of a run has written all that a page has seen, and a beginning of the
+    whole."""
     folder, graph, items, out = folder_with()
     with folder, Server("-i", "src=" + items, "-o", "out=" + out, "--rate", "5000", graph) as server:
         asyncio.run(asyncio.wait_for(until_held(server, 3000), PATIENCE))
@@ -242,7 +243,8 @@ async def watched(server: Server, items: int) -> list[int]:
         return found
 
 
-# As many random shorts as a prime says, so that in a stream that has them again and again no piece is like the next ones.
+# As many random shorts as a prime says, so that in a stream that has them again and again no piece is like the next
+# ones.
 PRIME = random.Random(1).randbytes(2 * 999_983)
 TWICE = 2 * PRIME
 
@@ -269,7 +271,8 @@ class Feeder(threading.Thread):
 
 
 class Compared(threading.Thread):
-    """Takes what a server writes to standard output, counts its bytes, and how many of them are this stream up to the first that is not."""
+    """Takes what a server writes to standard output, counts its bytes, and how many of them are this stream up to the
+    first that is not."""
 
     def __init__(self, server: Server) -> None:
         super().__init__(daemon=True)
@@ -287,7 +290,8 @@ class Compared(threading.Thread):
 
 
 def memory() -> None:
-    """At 10 million items a second, or as many as this machine gives, of which a page sees each million, the memory stays as it is, and an output gets them all."""
+    """At 10 million items a second, or as many as this machine gives, of which a page sees each million, the memory
+    stays as it is, and an output gets them all."""
     items = int(os.environ.get("STUDIO_ITEMS", "100_000_000"))
     folder, graph, _, _ = folder_with()
     with folder, Server("--paused", "-i", "src=-", "-o", "out=-", "--rate", "10000000", graph, stdin=subprocess.PIPE) as server:
@@ -314,7 +318,8 @@ async def paused(server: Server) -> None:
 
 
 async def ran(server: Server, takes_none: bool) -> tuple[int, float]:
-    """How many items went through while four seconds went by, and how long a processor worked for them; behind a page that takes no frames, or none."""
+    """How many items went through while four seconds went by, and how long a processor worked for them; behind a page
+    that takes no frames, or none."""
     async with socket_page(server.address) as page:
         if takes_none:
             await page.say(do="view", view="a", sink="out", span=4096, width=100)

@@ -100,7 +100,8 @@ def trigger() -> None:
 
 
 def dragged() -> None:
-    """A slider that is dragged over 1,000 numbers sets the last of them, and the log, the field and another page say so."""
+    """A slider that is dragged over 1,000 numbers sets the last of them, and the log, the field and another page say
+    so."""
     folder, graph, _, _ = folder_with()
     drag = """
         const [slider, done] = [document.querySelector(".setting[data-block=add] input[type=range]"), arguments[0]];
@@ -136,7 +137,8 @@ async def logged_settings(server: Server) -> list[Any]:
 
 
 def thousand() -> None:
-    """A slider that is dragged so that each of 1,000 numbers is set, while the run goes on, makes 1,000 settings: the output has each from its item on, and so has the script."""
+    """A slider that is dragged so that each of 1,000 numbers is set, while the run goes on, makes 1,000 settings: the
+    output has each from its item on, and so has the script."""
     drag = """
         const row = document.querySelector(".setting[data-block=add]"), done = arguments[0];
         const slider = row.querySelector("input[type=range]"), answer = row.querySelector("output");

@@ -1,4 +1,5 @@
-"""How the blocks of a run work: what they take and give, their share, what limits the run, and firings of one of them."""
+"""How the blocks of a run work: what they take and give, their share, what limits the run, and firings of one of
+them."""
 
 from __future__ import annotations
 
@@ -104,7 +105,8 @@ async def worked(server: Server) -> None:
 
 
 def works() -> None:
-    """Shares, items and buffers of a run, and which block limits it; the items are those that the equation gives, however the run is looked at."""
+    """Shares, items and buffers of a run, and which block limits it; the items are those that the equation gives,
+    however the run is looked at."""
     folder, graph, items, out = folder_with(HEAVY, SAW.tobytes() * 20)
     with folder, Server("-i", "src=" + items, "-o", "out=" + out, graph) as server:
         asyncio.run(asyncio.wait_for(worked(server), PATIENCE))
@@ -193,7 +195,8 @@ def a_second(note: str) -> float:
 
 
 def works_shown() -> None:
-    """A block shows its items a second and its share as it runs; the one that limits the run is marked, and the input is where the run waits for it."""
+    """A block shows its items a second and its share as it runs; the one that limits the run is marked, and the input
+    is where the run waits for it."""
     folder, graph, _, _ = folder_with(HEAVY)
     note, mark = "#graph [data-block='%s'] .note:not(.mark)", "#graph [data-block='%s'] .mark"
     with folder, Server("-i", "src=/dev/zero", graph) as server, browser() as driver:

@@ -1,4 +1,5 @@
-"""A page in the browser in which a graph runs: `python3 -m magbelu.studio GRAPH`, or the command magbelu-studio. docs/user/STUDIO.md says what it shows.
+"""A page in the browser in which a graph runs: `python3 -m magbelu.studio GRAPH`, or the command magbelu-studio.
+docs/user/STUDIO.md says what it shows.
 
 `command` takes the words, `run` moves the stream in a thread of its own, `inputs` and `outputs` join it to files and pipes, a `profile` measures its blocks,
 a `trace` keeps the last items of a sink, `views` picks what of them a page shows, of many the least and the greatest by `thinning`, and `server` is

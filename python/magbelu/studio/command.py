@@ -19,7 +19,8 @@ NAME = "magbelu-studio"
 DONE, REFUSED, FAILED, LACKING = 0, 1, 4, 127
 #: How a sink can be shown where the command says so.
 VIEWS = ("levels", "bits", "spectrum", "waterfall", "numbers")
-#: Where this is set, it is the token of the address, so that a server that begins anew has the address of the one before.
+#: Where this is set, it is the token of the address, so that a server that begins anew has the address of the one
+#: before.
 TOKEN = "MAGBELU_STUDIO_TOKEN"
 # How often a thread that computes lets another one run, in seconds: the run is not to wait for the views.
 SWITCH = 0.0005

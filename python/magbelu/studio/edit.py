@@ -29,7 +29,8 @@ def shown(value: Value) -> str:
 
 
 def with_table(text: str, array: str, table: dict[str, Value]) -> str:
-    """The text with a table more in an array: in the array's brackets where it has such, and else as a header with its keys at the end."""
+    """The text with a table more in an array: in the array's brackets where it has such, and else as a header with its
+    keys at the end."""
     entries = ["%s = %s" % (key, shown(value)) for key, value in table.items()]
     place = end_of_array(text, array)
     if place is None:
@@ -40,7 +41,8 @@ def with_table(text: str, array: str, table: dict[str, Value]) -> str:
 
 
 def end_of_array(text: str, array: str) -> Optional[tuple[int, bool, int]]:
-    """Of the array `array = [..]` at the top of a file, where its closing bracket stands, whether its last entry lacks a comma, and where that entry ends."""
+    """Of the array `array = [..]` at the top of a file, where its closing bracket stands, whether its last entry lacks
+    a comma, and where that entry ends."""
     depth, before = 0, ""
     words = [it for it in TOKEN.finditer(text) if not it[0].isspace() and it[0][0] not in "#\ufeff"]
     for at, it in enumerate(words):
@@ -73,7 +75,8 @@ def connect_of(start: str, from_port: int, end: str, to_port: int) -> dict[str, 
 
 
 def watched(graph: GraphFile, name: str, port: int = 0) -> tuple[str, str]:
-    """The text with a sink behind an output of a block, where none is there yet, and the name of the sink. A sink is its own."""
+    """The text with a sink behind an output of a block, where none is there yet, and the name of the sink. A sink is
+    its own."""
     sinks = graph.named("vector_sink")
     if graph.block(name) is None:
         raise ValueError("no block has the name %r" % name)

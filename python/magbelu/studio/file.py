@@ -1,4 +1,5 @@
-"""The tables of a graph file that the library has accepted. (It reads TOML 1.1, of which Python's own reader knows 1.0 alone.)"""
+"""The tables of a graph file that the library has accepted. (It reads TOML 1.1, of which Python's own reader knows 1.0
+alone.)"""
 
 from __future__ import annotations
 

@@ -13,7 +13,8 @@ from .file import tables_of
 
 # The keys of a block that are no parameters of its kind.
 OWN_KEYS = ("name", "kind")
-# The refusals that come only once all blocks and connections of a file were found to be right: of ports that are not used, of the graph as a whole, and of feeds.
+# The refusals that come only once all blocks and connections of a file were found to be right: of ports that are not
+# used, of the graph as a whole, and of feeds.
 DRAWN = (5, 7, 8, 11, 12, 20, 21, 24, 25, 26)
 
 
@@ -25,7 +26,8 @@ class GraphFile:
     text: str
     blocks: list[dict[str, Any]]
     connects: list[dict[str, Any]]
-    # Where the library has accepted it: how often blocks fire in an iteration, if the rates are balanced, what may be set of them, and the types of what they give.
+    # Where the library has accepted it: how often blocks fire in an iteration, if the rates are balanced, what may be
+    # set of them, and the types of what they give.
     firings: dict[str, int]
     settings: dict[str, Setting]
     _types: dict[str, str]
@@ -56,7 +58,8 @@ class GraphFile:
         return next((it for it in self.blocks if it["name"] == name), None)
 
     def type_of(self, name: str) -> str:
-        """The type of the items that a block gives. (Until the library tells it, a kind without a type is one of bytes, and one with a type `to` gives that.)"""
+        """The type of the items that a block gives. (Until the library tells it, a kind without a type is one of bytes,
+        and one with a type `to` gives that.)"""
         block = self.block(name) or {}
         return self._types.get(name) or str(block.get("to", block.get("type", "byte")))
 
@@ -78,7 +81,8 @@ class GraphFile:
         }
 
     def _setting(self, block: dict[str, Any]) -> Optional[dict[str, Any]]:
-        """What of a block may be set while it runs: the key that has its first value, which is shown too, the least and the greatest number, and of taps how many."""
+        """What of a block may be set while it runs: the key that has its first value, which is shown too, the least and
+        the greatest number, and of taps how many."""
         it = self.settings.get(block["name"])
         if it is None:
             return None

@@ -31,7 +31,8 @@ class Input:
         self.is_file = stat.S_ISREG(os.fstat(self._file).st_mode)
 
     def read(self, most: int) -> Optional[memoryview]:
-        """The next items, at most so many, nothing at the end, and None where none have come yet. They stand there until the next read."""
+        """The next items, at most so many, nothing at the end, and None where none have come yet. They stand there
+        until the next read."""
         want, held = min(most * self.item_size, MOST_BYTES), len(self._rest)
         if not self.is_file and not select.select([self._file], [], [], 0)[0]:
             return None

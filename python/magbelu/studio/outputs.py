@@ -7,7 +7,8 @@ import sys
 
 
 class Output:
-    """A file, a pipe, or standard output, which is `-`. Each item that the sink took is written there at once, out of the memory into which it was drained."""
+    """A file, a pipe, or standard output, which is `-`. Each item that the sink took is written there at once, out of
+    the memory into which it was drained."""
 
     def __init__(self, sink: str, path: str, number: int) -> None:
         self.sink = sink

@@ -22,7 +22,8 @@ MOST_VIEWS = 64
 
 
 class Page:
-    """A page, behind its web socket. A frame of a view is sent once the page has taken the one before, so that a slow page gets fewer, and waits for nothing."""
+    """A page, behind its web socket. A frame of a view is sent once the page has taken the one before, so that a slow
+    page gets fewer, and waits for nothing."""
 
     def __init__(self, studio: Studio, socket: web.WebSocketResponse) -> None:
         self._studio, self._socket = studio, socket

@@ -1,5 +1,6 @@
-"""How much each block of a run works, takes and gives, and how full its inputs get. A run is looked at now and then: over one piece of its inputs its blocks are stepped
-one by one, which comes to the same items, and each step is timed by the processor that it takes."""
+"""How much each block of a run works, takes and gives, and how full its inputs get. A run is looked at now and then:
+over one piece of its inputs its blocks are stepped one by one, which comes to the same items, and each step is timed by
+the processor that it takes."""
 
 from __future__ import annotations
 
@@ -20,7 +21,8 @@ class Counts(NamedTuple):
 
 
 class Profile:
-    """What was measured of a stream, whose inputs are the sources that something feeds. One thread measures, others read what is `shown`."""
+    """What was measured of a stream, whose inputs are the sources that something feeds. One thread measures, others
+    read what is `shown`."""
 
     def __init__(self, stream: Stream, inputs: Iterable[str]) -> None:
         self._stream, self._inputs = stream, list(inputs)

@@ -18,9 +18,11 @@ from .trace import Trace, room_of
 
 #: The states of a run. The last three are ends.
 RUNNING, PAUSED, DONE, STALLED, FAILED = "running", "paused", "done", "stalled", "failed"
-# How long is waited for items or a command, and how often is looked what each block waits for, and measured how it works, in seconds.
+# How long is waited for items or a command, and how often is looked what each block waits for, and measured how it
+# works, in seconds.
 SHORT, LONG, LOOK = 0.005, 0.1, 0.25
-# How many items of each input a turn takes: as many as a processor works for about so long at, in seconds, since what is asked for waits for the turn's end.
+# How many items of each input a turn takes: as many as a processor works for about so long at, in seconds, since what
+# is asked for waits for the turn's end.
 FEWEST, MOST, TURN = 1 << 10, 1 << 18, 0.01
 
 
@@ -40,7 +42,8 @@ class Ways(NamedTuple):
 
 
 class Run(threading.Thread):
-    """A run, from its first item on. All attributes may be read by other threads, and are written by its own, which does what `call` asks for between two pieces."""
+    """A run, from its first item on. All attributes may be read by other threads, and are written by its own, which
+    does what `call` asks for between two pieces."""
 
     def __init__(self, graph: GraphFile, path: str, ways: Ways, number: int = 1) -> None:
         super().__init__(name="magbelu-run", daemon=True)

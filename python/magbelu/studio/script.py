@@ -30,8 +30,8 @@ def feed_lines(source: str, path: str, item_size: int, count: int) -> Iterator[s
 
 
 def lines_of(run: Run) -> Iterable[str]:
-    """All settings, at the items from which they were in force; then what each source was fed so far, as its file has it; and what each sink holds then. What came
-    through a pipe is not kept, and a comment says so."""
+    """All settings, at the items from which they were in force; then what each source was fed so far, as its file has
+    it; and what each sink holds then. What came through a pipe is not kept, and a comment says so."""
     for made in list(run.log):
         yield set_line(made)
     for name, it in run.inputs.items():

@@ -36,7 +36,8 @@ def listening(port: int) -> socket.socket:
 
 
 class Server:
-    """Serves pages to whoever knows the token, which is the first part of each path, and comes from a page of this server or from none."""
+    """Serves pages to whoever knows the token, which is the first part of each path, and comes from a page of this
+    server or from none."""
 
     def __init__(self, studio: Studio, port: int, token: str) -> None:
         self._studio, self._token = studio, token

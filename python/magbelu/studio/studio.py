@@ -80,7 +80,8 @@ class Studio:
         return self._saved.decode()
 
     def _watched(self, watched: Sequence[tuple[str, str]]) -> tuple[str, list[tuple[str, str]]]:
-        """The text of the file with a sink behind each block that is to be watched, and of these sinks how each is shown."""
+        """The text of the file with a sink behind each block that is to be watched, and of these sinks how each is
+        shown."""
         text, views = self.saved, []
         for name, view in watched:
             block, _, port = name.partition(":")
@@ -160,7 +161,8 @@ class Studio:
         await self._replace(self.run.graph.text)
 
     async def _replace(self, text: str) -> None:
-        """Ends the run, and begins one of a text, which is paused if the one before was. A text that is refused leaves the run as it is."""
+        """Ends the run, and begins one of a text, which is paused if the one before was. A text that is refused leaves
+        the run as it is."""
         if any(not it.is_file for it in self.run.inputs.values()):
             raise Wrong("a run that is fed by a pipe cannot begin anew")
         with Stream(text, str(self.path)) as stream:

@@ -1,4 +1,5 @@
-"""The least and the greatest of each so many items: by numpy where that is installed, and else by the library's own blocks, which hold up no other thread."""
+"""The least and the greatest of each so many items: by numpy where that is installed, and else by the library's own
+blocks, which hold up no other thread."""
 
 from __future__ import annotations
 
@@ -17,7 +18,8 @@ MOST = 1024
 
 
 class Thinner:
-    """A graph that gives the least and the greatest of each `step` items, which is a power of two, of a type. It is at rest between two calls."""
+    """A graph that gives the least and the greatest of each `step` items, which is a power of two, of a type. It is at
+    rest between two calls."""
 
     def __init__(self, item_type: str, step: int) -> None:
         self._text = edit.with_table("", "block", {"name": "in", "kind": "vector_source", "type": item_type})

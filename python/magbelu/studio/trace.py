@@ -1,4 +1,5 @@
-"""The last items and tags that a sink took. They come in pieces of at most as many items as a stream drains at a time."""
+"""The last items and tags that a sink took. They come in pieces of at most as many items as a stream drains at a
+time."""
 
 from __future__ import annotations
 
@@ -33,7 +34,8 @@ def room_of(sinks: int, item_size: int) -> int:
 
 
 class Trace:
-    """A ring that one thread writes and others read. A reader is never waited for: what was written over while it read is not given."""
+    """A ring that one thread writes and others read. A reader is never waited for: what was written over while it read
+    is not given."""
 
     def __init__(self, item_size: int, room: int) -> None:
         self.item_size, self.room = item_size, room
@@ -76,8 +78,8 @@ class Trace:
         return items
 
     def columns(self, start: int, end: int, width: int) -> Optional[Columns]:
-        """The items from `start` to `end` in at most so many columns and one more. Every item is in one of them, but for those at the start that are written over before
-        they are read; None where those are all."""
+        """The items from `start` to `end` in at most so many columns and one more. Every item is in one of them, but
+        for those at the start that are written over before they are read; None where those are all."""
         step = 1 << ((max(end - start, 1) - 1) // max(width, 1)).bit_length()
         first, last = start // step, -(-end // step)
         self._thin(step, max(first, -(-self.start // step)), end // step)
@@ -91,7 +93,8 @@ class Trace:
         return Columns(first * step, step, [it[0] for it in pairs], [it[1] for it in pairs]) if pairs else None
 
     def _thin(self, step: int, first: int, last: int) -> None:
-        """Notes the least and the greatest of each of these columns, which are whole, for this frame and the next ones."""
+        """Notes the least and the greatest of each of these columns, which are whole, for this frame and the next
+        ones."""
         lacking = [it for it in range(first, last) if (step, it) not in self._known]
         if not lacking:
             return

@@ -32,8 +32,9 @@ def number(asked: dict[str, Any], key: str, low: int, high: int) -> int:
 
 @dataclass
 class View:
-    """What is shown of a sink: `span` items in so many columns, from an item on, or up to the last one, or about the last tag with a key. Where `is_whole` is said, each
-    item is wanted, and not the least and the greatest of a column; and behind them, where there is an `other` sink, its items of the same numbers."""
+    """What is shown of a sink: `span` items in so many columns, from an item on, or up to the last one, or about the
+    last tag with a key. Where `is_whole` is said, each item is wanted, and not the least and the greatest of a column;
+    and behind them, where there is an `other` sink, its items of the same numbers."""
 
     sink: str
     span: int
