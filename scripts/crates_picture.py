@@ -50,7 +50,10 @@ def test(layers: List[Layer], uses: Dict[str, Set[str]]) -> None:
     for crate, below in uses.items():
         for other in sorted(below):
             if height[other] > height[crate]:
-                raise ValueError(f"crates.txt has {crate} in the layer {layers[height[crate]].name}, and it uses {other} of {layers[height[other]].name}")
+                raise ValueError(
+                    f"crates.txt has {crate} in the layer {layers[height[crate]].name}, and it uses {other} of "
+                    f"{layers[height[other]].name}"
+                )
 
 
 def reached(crate: str, uses: Dict[str, Set[str]], seen: Set[str]) -> Set[str]:
@@ -66,10 +69,16 @@ def shown(layers: List[Layer], uses: Dict[str, Set[str]]) -> Iterator[str]:
     one before."""
     yield "digraph crates {"
     yield '  rankdir=BT; newrank=true; nodesep=0.15; ranksep=0.28; fontname="sans-serif"; fontsize=13;'
-    yield '  node [shape=box, style=filled, fillcolor=white, fontname="sans-serif", fontsize=12, height=0.3, margin="0.08,0.03"];'
+    yield (
+        '  node [shape=box, style=filled, fillcolor=white, fontname="sans-serif", fontsize=12, height=0.3,'
+        ' margin="0.08,0.03"];'
+    )
     yield '  edge [arrowsize=0.6];'
     for at, layer in enumerate(layers):
-        yield f'  subgraph cluster_{at} {{ label="{layer.name}: {layer.saying}"; labeljust=l; style=filled; color="{COLOURS[at % 2]}";'
+        yield (
+            f'  subgraph cluster_{at} {{ label="{layer.name}: {layer.saying}"; labeljust=l; style=filled;'
+            f' color="{COLOURS[at % 2]}";'
+        )
         yield from (f'    "{crate}";' for crate in layer.crates)
         yield "  }"
     for at, (below, above) in enumerate(zip(layers, layers[1:])):
@@ -80,7 +89,11 @@ def shown(layers: List[Layer], uses: Dict[str, Set[str]]) -> Iterator[str]:
     lowest = set(layers[0].crates)
     for crate, below in uses.items():
         direct = {other for other in below if not any(other in stands_on[it] for it in below)}
-        yield from (f'  "{other}" -> "{crate}" [dir=back, color="{LINE}"];' for other in sorted(direct) if crate in lowest or other not in lowest)
+        yield from (
+            f'  "{other}" -> "{crate}" [dir=back, color="{LINE}"];'
+            for other in sorted(direct)
+            if crate in lowest or other not in lowest
+        )
     yield "}"
 
 

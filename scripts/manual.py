@@ -27,12 +27,14 @@ FIRST, REFUSALS, OPTIONS = "README.md", "docs/user/refusals_by_number.md", "docs
 CRATES, LAWS = "docs/contribute/crates.md", "docs/proof/laws.md"
 SHELVES: Dict[str, List[str]] = {
     "Use": [
-        "docs/user/TUTORIAL.md", "docs/user/COMMANDS.md", OPTIONS, "docs/user/FILES.md", "docs/user/REFUSALS.md", REFUSALS, "docs/user/KINDS.md", "docs/user/C.md", "docs/user/EMBED.md",
-        "docs/user/STUDIO.md", "docs/user/FOR_GNU_RADIO_USERS.md", "docs/user/COVERAGE.md", "docs/user/SPEED.md", "CHANGELOG.md",
+        "docs/user/TUTORIAL.md", "docs/user/COMMANDS.md", OPTIONS, "docs/user/FILES.md", "docs/user/REFUSALS.md",
+        REFUSALS, "docs/user/KINDS.md", "docs/user/C.md", "docs/user/EMBED.md", "docs/user/STUDIO.md",
+        "docs/user/FOR_GNU_RADIO_USERS.md", "docs/user/COVERAGE.md", "docs/user/SPEED.md", "CHANGELOG.md",
     ],
     "Contribute": [
-        "CONTRIBUTING.md", "docs/contribute/ARCHITECTURE.md", CRATES, "docs/contribute/GLOSSARY.md", "docs/contribute/NEW_KIND.md", "docs/contribute/NEW_REFUSAL.md",
-        "docs/contribute/GATE.md", "tests/README.md", "docs/contribute/DECISIONS.md",
+        "CONTRIBUTING.md", "docs/contribute/ARCHITECTURE.md", CRATES, "docs/contribute/GLOSSARY.md",
+        "docs/contribute/NEW_KIND.md", "docs/contribute/NEW_REFUSAL.md", "docs/contribute/GATE.md", "tests/README.md",
+        "docs/contribute/DECISIONS.md",
     ],
     "Proof": ["docs/proof/MODEL.md", LAWS, "docs/proof/PROVED.md", "docs/proof/TESTED.md", "docs/proof/BELIEVED.md"],
 }

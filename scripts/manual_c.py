@@ -130,7 +130,14 @@ def sections(matter: Matter, owner: str, language: str) -> Iterator[str]:
     for number, it in enumerate(heads):
         yield f"{level} {owner}{it.name}\n"
         yield markdown(matter.comment) if not number else f"See `{owner}{heads[0].name}`.\n"
-        shown = [it.text, *(other.text for other in matter.declarations if other.text.startswith("#define") and other is not it)] if not number else [it.text]
+        shown = (
+            [
+                it.text,
+                *(other.text for other in matter.declarations if other.text.startswith("#define") and other is not it),
+            ]
+            if not number
+            else [it.text]
+        )
         yield code("\n".join(shown), language)
 
 
@@ -150,13 +157,17 @@ def cpp_page(lines: List[str]) -> str:
     """The page of the C++ header. The members of an inner class stand with each class that is made of it."""
     first, behind = comment_at(lines, 0)
     all_matters = [matter for matter in matters(lines[behind:]) if is_for_callers(matter)]
-    inner: Dict[str, Declaration] = {it.name: it for matter in all_matters if matter.is_inner for it in matter.declarations if it.body}
+    inner: Dict[str, Declaration] = {
+        it.name: it for matter in all_matters if matter.is_inner for it in matter.declarations if it.body
+    }
     shown: List[str] = []
     for matter in (it for it in all_matters if not it.is_inner):
         shown += sections(matter, "", "cpp")
         for it in matter.declarations:
             above = [inner[name] for name in re.findall(r"detail::(\w+)", it.text) if name in inner]
-            for member in (member for body in [it.body, *(base.body for base in above)] for member in matters(body, "    ")):
+            for member in (
+                member for body in [it.body, *(base.body for base in above)] for member in matters(body, "    ")
+            ):
                 if member.declarations:
                     shown += sections(member, f"{it.name}::", "cpp")
     return "\n".join(["# C++: magbelu.hpp\n", markdown(first), *shown])
@@ -164,6 +175,9 @@ def cpp_page(lines: List[str]) -> str:
 
 def write(stage: Stage) -> List[str]:
     """Writes both pages, and gives their places."""
-    for name, made in (("c", c_page((TOP / "c/magbelu.h").read_text().splitlines())), ("cpp", cpp_page((TOP / "c/magbelu.hpp").read_text().splitlines()))):
+    for name, made in (
+        ("c", c_page((TOP / "c/magbelu.h").read_text().splitlines())),
+        ("cpp", cpp_page((TOP / "c/magbelu.hpp").read_text().splitlines())),
+    ):
         stage.write(FOLDER / name / "index.md", made)
     return [str(FOLDER / name / "index.md") for name in ("c", "cpp")]

@@ -21,7 +21,11 @@ def sections(command: str) -> List[str]:
     usage = re.search(r"(?m)^Usage: (.*)$", text)
     if not usage:
         raise ValueError(f"the help of {command} does not say how it is called")
-    options = [f"### {name}\n\n`{words}` of `flow {command}`: {saying}\n" for words, name, saying in OPTION.findall(text) if name != "--help"]
+    options = [
+        f"### {name}\n\n`{words}` of `flow {command}`: {saying}\n"
+        for words, name, saying in OPTION.findall(text)
+        if name != "--help"
+    ]
     return [f"## flow {command}\n\n{text.splitlines()[0]}.\n\n```\n{usage.group(1)}\n```\n", *options]
 
 

@@ -37,7 +37,10 @@ def bare_page(path: Path, body: str, page: Path) -> str:
     """A page outside of the navigation and the search, of a file or a folder."""
     style = os.path.relpath("manual.css", page.parent)
     head = f'<meta charset="utf-8"><title>{html.escape(str(path))}</title><link rel="stylesheet" href="{style}">'
-    return f'<!DOCTYPE html>\n<html lang="en"><head>{head}</head><body class="bare"><h1>{html.escape(str(path))}</h1>\n{body}\n</body></html>\n'
+    heading = f"<h1>{html.escape(str(path))}</h1>"
+    return (
+        f'<!DOCTYPE html>\n<html lang="en"><head>{head}</head><body class="bare">{heading}\n{body}\n</body></html>\n'
+    )
 
 
 def text_of(path: Path) -> str:
@@ -83,12 +86,20 @@ class Stage:
         if place.suffix == ".md":
             is_example = path.parts[0] == "examples"
             rows = [f"- [`{file}`]({file})" for file in files_in(place.parent)] if is_example else []
-            self.write(place, self.linked(place, "\n".join([(TOP / place).read_text(), *(["## Files", "", *rows, ""] if rows else [])])))
+            self.write(
+                place,
+                self.linked(
+                    place, "\n".join([(TOP / place).read_text(), *(["## Files", "", *rows, ""] if rows else [])])
+                ),
+            )
         elif source.is_dir():
             files = files_in(path)
             for file in files:
                 self.want(path / file)
-            rows = [f'<li><a href="{os.path.relpath(place_of(path / file), path)}">{html.escape(str(file))}</a></li>' for file in files]
+            rows = [
+                f'<li><a href="{os.path.relpath(place_of(path / file), path)}">{html.escape(str(file))}</a></li>'
+                for file in files
+            ]
             self.write(place, bare_page(path, "<ul>\n" + "\n".join(rows) + "\n</ul>", place))
         elif path.suffix in PICTURES:
             (self.folder / place).parent.mkdir(parents=True, exist_ok=True)

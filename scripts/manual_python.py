@@ -140,7 +140,11 @@ class Reference:
         for name, method in methods.items():
             if not name.startswith("_"):
                 yield f"### {node.name}.{name}\n"
-                yield code(f"{name}: {ast.unparse(method.returns)}" if is_property(method) and method.returns else signature(method, name, True))
+                yield code(
+                    f"{name}: {ast.unparse(method.returns)}"
+                    if is_property(method) and method.returns
+                    else signature(method, name, True)
+                )
                 yield text_of(ast.get_docstring(method))
 
     def section(self, file: str, name: str) -> Iterator[str]:

@@ -51,7 +51,10 @@ class Pages:
             return f"{page}.html#{anchor(trait + member)}"
         self.stage.want(Path(path))
         lines = self.names.spec(TOP / path).lines if path.endswith(".antt") else self.names.sources.at(path).lines
-        declares = re.compile(rf"\s*(?:(?:pub|abbrev|unfoldable|record|data|struct|enum|trait|type)(?:\([a-z]+\))? )*{re.escape(trait)}(?![\w-])")
+        declares = re.compile(
+            rf"\s*(?:(?:pub|abbrev|unfoldable|record|data|struct|enum|trait|type)(?:\([a-z]+\))? "
+            rf")*{re.escape(trait)}(?![\w-])"
+        )
         line = next((at for at, text in enumerate(lines, 1) if declares.match(text)), 0)
         place = os.path.relpath(place_of(Path(path)), FOLDER)
         return f"{place}#L{line}" if line else place
@@ -117,7 +120,9 @@ class Pages:
         else:
             lines = list(file.declaration(item.name).text)
             lines = lines if item.name in file.models else file.without_private(lines)
-        code = self.linked(lines, TYPE, {name: to for name, to in self.of_types(file, lines).items() if name != item.name})
+        code = self.linked(
+            lines, TYPE, {name: to for name, to in self.of_types(file, lines).items() if name != item.name}
+        )
         return f"<pre><code>{code}</code></pre>\n"
 
     def section(self, item: Item) -> List[str]:
@@ -138,14 +143,19 @@ class Pages:
         shown.append(f"{said}Source: [`{item.file.path}`]({source}#L{item.line + 1}).\n")
         if item.name in item.file.types:
             parts = list(self.items.parts(item))
-            members = {name: f"#{anchor(item.name + name)}" for name, _ in parts} if item.file.is_trait(item.name) else {}
+            members = (
+                {name: f"#{anchor(item.name + name)}" for name, _ in parts} if item.file.is_trait(item.name) else {}
+            )
             for name, contract in parts:
                 shown += [f"### {item.name}::{name}\n", self.text(plain(contract.docs)), self.code(contract, members)]
         return shown
 
     def page(self, module: Module) -> str:
         """The page of a module: its doc comment, a list of its items, and a section for each that has no other page."""
-        rows = [f"- {self.text([f'[`{name}`]']).strip()}: {self.text([first_sentence(item.docs)]).strip()}" for name, item in module.items.items()]
+        rows = [
+            f"- {self.text([f'[`{name}`]']).strip()}: {self.text([first_sentence(item.docs)]).strip()}"
+            for name, item in module.items.items()
+        ]
         sections = [part for item in self.items.of_page(module) for part in self.section(item)]
         return "\n".join([f"# {module.title}\n", self.text(module.docs), *rows, "", *sections])
 

@@ -15,7 +15,10 @@ CALLS = TOP / "scripts" / "promised.txt"
 PAGES = TOP / "out" / "promised"
 BELIEVED = TOP / "docs" / "proof" / "BELIEVED.md"
 # Words of the language, and tactics of proofs that stand in specs/.
-OWN = {"self", "result", "Self", "Unit", "tt", "¬", "do", "←", "as", "omega", "grind", "rw", "cc", "absurd", "unfolding", "if"}
+OWN = {
+    "self", "result", "Self", "Unit", "tt", "¬", "do", "←", "as", "omega", "grind", "rw", "cc", "absurd", "unfolding",
+    "if",
+}
 
 
 @dataclass
@@ -178,7 +181,9 @@ class Names:
         heads = "\n".join([contract.owner, *contract.signature])
         clauses = tuple(re.sub(r"^\s+(requires|ensures)( \w+)? ", "    ", line) for line in contract.clauses)
         own = {*re.findall(r"\b([a-z_]+):", heads), *members}
-        yield from zip(mentioned(tokens_of(clauses)), self.of_clause(file, clauses, contract.scope, bounds_in(heads), own))
+        yield from zip(
+            mentioned(tokens_of(clauses)), self.of_clause(file, clauses, contract.scope, bounds_in(heads), own)
+        )
 
     def of_contract(self, contract: Contract) -> Iterator[Found]:
         """What a signature and its clauses name."""
@@ -224,7 +229,9 @@ def closure_of(names: Names, contracts: List[Contract]) -> Closure:
         step = [it for it in dict.fromkeys(found) if isinstance(it, Entry) and it not in seen]
         seen.update(step)
         steps += [step] if step else []
-        found = [it for entry in step for it in (names.of_spec(entry) if entry.language == "agda" else names.of_type(entry))]
+        found = [
+            it for entry in step for it in (names.of_spec(entry) if entry.language == "agda" else names.of_type(entry))
+        ]
     return Closure(steps, list(library))
 
 
@@ -263,7 +270,10 @@ def runs_of(entries: List[Entry]) -> List[List[Entry]]:
 def page_of(call: Call, contracts: List[Contract], closure: Closure) -> str:
     """The page of a call."""
     lines = [f"# What is promised of {call.names}", ""]
-    lines += ["`scripts/promised.py` makes this page of the sources, and [BELIEVED.md](../../docs/proof/BELIEVED.md) says how to read it."]
+    lines += [
+        "`scripts/promised.py` makes this page of the sources, and [BELIEVED.md](../../docs/proof/BELIEVED.md) says "
+        "how to read it."
+    ]
     lines += ["[What is not promised](#what-is-not-promised) stands at the end.", ""]
     for contract in contracts:
         lines += [f"{linked(contract.path)}:", "", "```rust", *contract.text, "```", ""]
@@ -353,7 +363,9 @@ def main(words: List[str]) -> int:
                 continue
             stale += 1
             if words:
-                print(f"{path.relative_to(TOP)} has not the counts that scripts/promised.py makes of the sources: call it")
+                print(
+                    f"{path.relative_to(TOP)} has not the counts that scripts/promised.py makes of the sources: call it"
+                )
             else:
                 path.parent.mkdir(parents=True, exist_ok=True)
                 path.write_text(text)

@@ -57,7 +57,9 @@ class Items:
 
     def __init__(self, sources: Sources) -> None:
         self.sources = sources
-        self.modules = [self.read_module(name) for name in (ROOT, *re.findall(r"(?m)^pub mod (\w+);", self.source(ROOT).text))]
+        self.modules = [
+            self.read_module(name) for name in (ROOT, *re.findall(r"(?m)^pub mod (\w+);", self.source(ROOT).text))
+        ]
         self.homes: Dict[Tuple[str, str], str] = {}
         for module in sorted(self.modules, key=lambda it: it.name in BRINGING):
             for item in module.items.values():
@@ -101,7 +103,9 @@ class Items:
                 if re.match(rf"pub (?:const |fn |const fn ){name}\b", line):
                     return Item(name, file, at)
         brought = [file.uses[name] for file in self.sources.files.get(crate, []) if name in file.uses]
-        return next((self.find(path[0], name) for path in brought if path[0] not in ("crate", "super", "self", crate)), None)
+        return next(
+            (self.find(path[0], name) for path in brought if path[0] not in ("crate", "super", "self", crate)), None
+        )
 
     def base_of(self, item: Item) -> Optional[Item]:
         """The generic type that a `type` gives parameters."""

@@ -9,12 +9,17 @@ TOP = Path(__file__).resolve().parent.parent
 CRATES = TOP / "crates"
 
 # Variants of the library that begin with a small letter; any other small name in a pattern is a variable.
-SMALL_VARIANTS = {"suc", "zero", "true", "false", "pos", "negsuc", "inl", "inr", "∷", "item", "no_items", "member", "no_members"}
+SMALL_VARIANTS = {
+    "suc", "zero", "true", "false", "pos", "negsuc", "inl", "inr", "∷", "item", "no_items", "member", "no_members",
+}
 # What a token is: `[]`, a projection behind a bracket, a name with what it is asked for, or one character.
 TOKEN = re.compile(r"\[\]|\.[^\s(){}\[\];,.]+|[^\s(){}\[\];,.]+(?:\.[^\s(){}\[\];,.]+)*|\S")
 # A line that begins a definition: one with a keyword, or a name before its type.
 STARTS = re.compile(r"(?:(?:pub|abbrev|unfoldable|record|data)\s|[^\s:]+ :(?:\s|$))")
-WORDS = {"abbrev", "pub", "unfoldable", "record", "data", "where", "let", "in", "elim", "else", "Type", "module", "infixl", "infixr"}
+WORDS = {
+    "abbrev", "pub", "unfoldable", "record", "data", "where", "let", "in", "elim", "else", "Type", "module", "infixl",
+    "infixr",
+}
 SIGNS = set("(){}[];,.:=→×λ_|↦⊥?") | {"[]"}
 
 
@@ -131,7 +136,12 @@ class SpecFile:
             line = self.lines[end]
             own = line[len(indent) :]
             if line and not line.startswith(indent + " "):
-                if not line.startswith(indent) or own.startswith("--") or STARTS.match(own) or re.match(r"module |infix|use ", own):
+                if (
+                    not line.startswith(indent)
+                    or own.startswith("--")
+                    or STARTS.match(own)
+                    or re.match(r"module |infix|use ", own)
+                ):
                     break
             end += 1
         while not self.lines[end - 1]:

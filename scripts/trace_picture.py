@@ -25,7 +25,8 @@ def rectangle(span, left, width):
     """A span, or a part of it, as a rectangle, with its name and how long it took for who points at it."""
     top = (span["tid"] - 1) * ROW + 4
     title = escape(f"{span['name']}: {span['dur']} us")
-    return f'<rect x="{left:.2f}" y="{top}" width="{max(width, 0.3):.2f}" height="{ROW - 8}" fill="{COLORS[span["cat"]]}"><title>{title}</title></rect>'
+    place = f'x="{left:.2f}" y="{top}" width="{max(width, 0.3):.2f}" height="{ROW - 8}"'
+    return f'<rect {place} fill="{COLORS[span["cat"]]}"><title>{title}</title></rect>'
 
 
 def times(first, last):
@@ -41,7 +42,8 @@ def picture(names, spans, first, last):
     """The lines of the picture."""
     scale = (WIDTH - NAMES) / (last - first)
     height = len(names) * ROW + 24
-    yield f'<svg xmlns="http://www.w3.org/2000/svg" viewBox="0 0 {WIDTH} {height}" font-family="sans-serif" font-size="12">'
+    view = f'viewBox="0 0 {WIDTH} {height}"'
+    yield f'<svg xmlns="http://www.w3.org/2000/svg" {view} font-family="sans-serif" font-size="12">'
     yield f'<rect width="{WIDTH}" height="{height}" fill="white"/>'
     for span in spans:
         begin, end = max(span["ts"], first), min(span["ts"] + span["dur"], last)

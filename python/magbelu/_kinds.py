@@ -33,7 +33,8 @@ class Kind(NamedTuple):
     def page(self) -> str:
         """What `flow kinds` prints of it."""
         rows = [*self.parameters.items(), ("rate", self.rate), ("example", self.example)]
-        return "".join(["%s: %s\n" % (self.name, self.equation), *("    %s: %s\n" % row for row in rows if row[1])])
+        said = ("    %s: %s\n" % row for row in rows if row[1])
+        return "".join(["%s: %s\n" % (self.name, self.equation), *said])
 
 
 #: The kinds by their names, in the order of `flow kinds`.
@@ -76,7 +77,9 @@ KIND_ROWS: Mapping[str, Kind] = {
         "1 for 1", "bytes, 3: 100 gives 44", "value", {"value": 1},
     ),
     "divide_const": Kind(
-        "divide_const", "x[n] / c(n) without what is behind the point, wrapped, and 0 where c(n) is 0", ("byte", "short", "int"),
+        "divide_const",
+        "x[n] / c(n) without what is behind the point, wrapped, and 0 where c(n) is 0",
+        ("byte", "short", "int"),
         {
             "type": "\"byte\", \"short\" or \"int\"",
             "value": "a number of the type, may be set",
@@ -108,7 +111,9 @@ KIND_ROWS: Mapping[str, Kind] = {
         "1 for 1", "bytes, 12: 10 gives 6", "value", {"value": 1},
     ),
     "scale": Kind(
-        "scale", "x[n] * c(n) / 2^shift, to the nearest whole number (ties round up), then to the nearest in the type's range", ("byte", "short", "int"),
+        "scale",
+        "x[n] * c(n) / 2^shift, to the nearest whole number (ties round up), then to the nearest in the type's range",
+        ("byte", "short", "int"),
         {
             "type": "\"byte\", \"short\" or \"int\"",
             "factor": "-32768 to 32767, may be set",
@@ -155,7 +160,10 @@ KIND_ROWS: Mapping[str, Kind] = {
         "1 for 1 of each input", "bytes: 1 2 and 10 20 give 11 22", None, {},
     ),
     "sub": Kind(
-        "sub", "the items of the first of its 1 to 16 inputs less those of the others, wrapped, and of one input their negative", ("byte", "short", "int"),
+        "sub",
+        "the items of the first of its 1 to 16 inputs less those of the others, wrapped, and of one input their "
+        "negative",
+        ("byte", "short", "int"),
         {
             "type": "\"byte\", \"short\" or \"int\"",
         },
@@ -169,7 +177,10 @@ KIND_ROWS: Mapping[str, Kind] = {
         "1 for 1 of each input", "bytes: 3 100 and 2 3 give 6 44", None, {},
     ),
     "divide": Kind(
-        "divide", "the items of the first of its 1 to 16 inputs over those of the others in turn, each without what is behind the point, wrapped, and 0 over 0", ("byte", "short", "int"),
+        "divide",
+        "the items of the first of its 1 to 16 inputs over those of the others in turn, each without what is behind "
+        "the point, wrapped, and 0 over 0",
+        ("byte", "short", "int"),
         {
             "type": "\"byte\", \"short\" or \"int\"",
         },
@@ -211,7 +222,9 @@ KIND_ROWS: Mapping[str, Kind] = {
         "1 for 1 of each input", "bytes: 12 and 10 give 6", None, {},
     ),
     "sample_and_hold": Kind(
-        "sample_and_hold", "the item of its first input at the last place where the second is not 0, and 0 before there is one", ("byte", "short", "int"),
+        "sample_and_hold",
+        "the item of its first input at the last place where the second is not 0, and 0 before there is one",
+        ("byte", "short", "int"),
         {
             "type": "\"byte\", \"short\" or \"int\"",
         },
@@ -281,7 +294,9 @@ KIND_ROWS: Mapping[str, Kind] = {
         "1 for `decimation`", "shorts, 1 2 3: 1 0 0 4 gives 1 2 3 4", "taps", {"taps": [1]},
     ),
     "interp_fir": Kind(
-        "interp_fir", "item m * interpolation + p is the sum of h(m)[p + j * interpolation] * x[m - j], over 2^shift as `scale`", ("short", "int"),
+        "interp_fir",
+        "item m * interpolation + p is the sum of h(m)[p + j * interpolation] * x[m - j], over 2^shift as `scale`",
+        ("short", "int"),
         {
             "type": "\"short\" or \"int\"",
             "taps": "1 to 256 numbers, each -32768 to 32767, may be set",
@@ -333,7 +348,9 @@ KIND_ROWS: Mapping[str, Kind] = {
         "1 for n", "shorts, 3: 4 -2 9 5 6 7 gives 9 7", None, {"n": 1},
     ),
     "argmax": Kind(
-        "argmax", "the place of the first of the greatest of each n items, from 0 on, wrapped", ("byte", "short", "int"),
+        "argmax",
+        "the place of the first of the greatest of each n items, from 0 on, wrapped",
+        ("byte", "short", "int"),
         {
             "type": "\"byte\", \"short\" or \"int\"",
             "n": "1 to 1024",
@@ -349,17 +366,24 @@ KIND_ROWS: Mapping[str, Kind] = {
         "n for 1", "2: 1 2 gives 1 1 2 2", None, {"n": 1},
     ),
     "insert": Kind(
-        "insert", "the list `values` once in each `period` items, from item `offset` of these on, and x in all other places", ("byte", "short", "int"),
+        "insert",
+        "the list `values` once in each `period` items, from item `offset` of these on, and x in all other places",
+        ("byte", "short", "int"),
         {
             "type": "\"byte\", \"short\" or \"int\"",
             "values": "1 to 256 numbers of the type",
             "period": "more than there are values, and at most 1024",
             "offset": "0 to as much as `period` is more than there are values, 0 where it is missing",
         },
-        "`period` for as many less than that as there are values", "9 8, 4, 1: 1 2 3 4 gives 1 9 8 2 3 9 8 4", None, {"values": [1], "period": 2},
+        "`period` for as many less than that as there are values",
+        "9 8, 4, 1: 1 2 3 4 gives 1 9 8 2 3 9 8 4",
+        None,
+        {"values": [1], "period": 2},
     ),
     "pattern": Kind(
-        "pattern", "the list `values` again and again: its item n modulo its length, whatever x[n] is", ("byte", "short", "int"),
+        "pattern",
+        "the list `values` again and again: its item n modulo its length, whatever x[n] is",
+        ("byte", "short", "int"),
         {
             "type": "\"byte\", \"short\" or \"int\"",
             "values": "1 to 256 numbers of the type",
@@ -375,7 +399,9 @@ KIND_ROWS: Mapping[str, Kind] = {
         "1 for 1", "3: 0 0 0 0 0 gives 0 1 2 0 1", None, {"n": 1},
     ),
     "permute": Kind(
-        "permute", "item order[j] of each frame at its place j, where a frame has as many items as the order", ("byte", "short", "int"),
+        "permute",
+        "item order[j] of each frame at its place j, where a frame has as many items as the order",
+        ("byte", "short", "int"),
         {
             "type": "\"byte\", \"short\" or \"int\"",
             "order": "the numbers 0 to n - 1 in any order, n from 1 to 256",
@@ -454,7 +480,9 @@ KIND_ROWS: Mapping[str, Kind] = {
         "whole rounds", "msb_first, 4, 8: 5 8 gives 88", None, {"k": 1, "l": 1},
     ),
     "packed_to_unpacked": Kind(
-        "packed_to_unpacked", "all bits of each item, one after the other, in items of `bits` bits", ("byte", "short", "int"),
+        "packed_to_unpacked",
+        "all bits of each item, one after the other, in items of `bits` bits",
+        ("byte", "short", "int"),
         {
             "type": "\"byte\", \"short\" or \"int\"",
             "order": "\"msb_first\" or \"lsb_first\", \"msb_first\" where it is missing",
@@ -463,7 +491,9 @@ KIND_ROWS: Mapping[str, Kind] = {
         "whole rounds", "bytes, msb_first, 4: 88 gives 5 8", None, {"bits": 1},
     ),
     "unpacked_to_packed": Kind(
-        "unpacked_to_packed", "the `bits` lowest bits of each item, one after the other, in whole items", ("byte", "short", "int"),
+        "unpacked_to_packed",
+        "the `bits` lowest bits of each item, one after the other, in whole items",
+        ("byte", "short", "int"),
         {
             "type": "\"byte\", \"short\" or \"int\"",
             "order": "\"msb_first\" or \"lsb_first\", \"msb_first\" where it is missing",
@@ -513,7 +543,9 @@ KIND_ROWS: Mapping[str, Kind] = {
         "1 for 1", "3, 5, 1: 0 0 0 0 gives 1 1 0 1", None, {"bits": 2, "mask": 1, "init": 1},
     ),
     "correlate_access_code": Kind(
-        "correlate_access_code", "bit 0 of x[n-64], and 2 more at the first item behind a `code`, where at most `threshold` bits differ", (),
+        "correlate_access_code",
+        "bit 0 of x[n-64], and 2 more at the first item behind a `code`, where at most `threshold` bits differ",
+        (),
         {
             "code": "a text of 1 to 64 digits 0 and 1",
             "threshold": "0 to as many as `code` has digits",
@@ -530,7 +562,10 @@ KIND_ROWS: Mapping[str, Kind] = {
             "final_xor": "0 to 2^bits - 1",
             "n": "1 to 1020",
         },
-        "n + its bytes for n", "msb_first, 8, 7, 0, 0, 1: 1 2 gives 1 7 2 14", None, {"bits": 8, "polynomial": 7, "init": 0, "final_xor": 0, "n": 1},
+        "n + its bytes for n",
+        "msb_first, 8, 7, 0, 0, 1: 1 2 gives 1 7 2 14",
+        None,
+        {"bits": 8, "polynomial": 7, "init": 0, "final_xor": 0, "n": 1},
     ),
     "crc_check": Kind(
         "crc_check", "1 for each `n` items with their checksum behind them, and 0 for each with another", (),
@@ -542,31 +577,49 @@ KIND_ROWS: Mapping[str, Kind] = {
             "final_xor": "0 to 2^bits - 1",
             "n": "1 to 1020",
         },
-        "1 for n + its bytes", "msb_first, 8, 7, 0, 0, 1: 1 7 2 7 gives 1 0", None, {"bits": 8, "polynomial": 7, "init": 0, "final_xor": 0, "n": 1},
+        "1 for n + its bytes",
+        "msb_first, 8, 7, 0, 0, 1: 1 7 2 7 gives 1 0",
+        None,
+        {"bits": 8, "polynomial": 7, "init": 0, "final_xor": 0, "n": 1},
     ),
     "state_machine": Kind(
-        "state_machine", "output[r], where r is s * symbols + x[n] modulo symbols, and the state s, `init` at first, is next[r] from then on", (),
+        "state_machine",
+        "output[r], where r is s * symbols + x[n] modulo symbols, and the state s, `init` at first, is next[r] from "
+        "then on",
+        (),
         {
             "symbols": "1 to 4096",
             "next": "1 to 4096 numbers of states, `symbols` of them for each state",
             "output": "as many numbers as `next`, each 0 to 255",
             "init": "the number of a state, of which `next` has `symbols` for each",
         },
-        "1 for 1", "2, 0 2 0 2 1 3 1 3, 0 3 3 0 1 2 2 1, 0: 1 0 1 1 0 0 gives 3 1 0 2 2 3", None, {"symbols": 1, "next": [0], "output": [0], "init": 0},
+        "1 for 1",
+        "2, 0 2 0 2 1 3 1 3, 0 3 3 0 1 2 2 1, 0: 1 0 1 1 0 0 gives 3 1 0 2 2 3",
+        None,
+        {"symbols": 1, "next": [0], "output": [0], "init": 0},
     ),
     "viterbi": Kind(
-        "viterbi", "of each block, the symbols r modulo symbols of the path of rows r that lead by next[r] from state r / symbols on, for which the sum of x[outputs * i + output[r]] over steps i is the least", ("byte", "short", "int"),
+        "viterbi",
+        "of each block, the symbols r modulo symbols of the path of rows r that lead by next[r] from state r / "
+        "symbols on, for which the sum of x[outputs * i + output[r]] over steps i is the least",
+        ("byte", "short", "int"),
         {
             "type": "\"byte\", \"short\" or \"int\"",
             "symbols": "1 to 256",
             "next": "1 to 4096 numbers of states, `symbols` of them for each of at most 1024 states",
             "outputs": "1 to 1024",
             "output": "as many numbers as `next`, each 0 to less than `outputs`",
-            "steps": "1 to as many that steps * outputs is at most 1024, and steps times the number of states at most 16384",
-            "start": "the number of a state, of which `next` has `symbols` for each, or less than 0 where none is known, -1 where it is missing",
-            "end": "the number of a state, of which `next` has `symbols` for each, or less than 0 where none is known, -1 where it is missing",
+            "steps": "1 to as many that steps * outputs is at most 1024, and steps times the number of states at most"
+            " 16384",
+            "start": "the number of a state, of which `next` has `symbols` for each, or less than 0 where none is "
+            "known, -1 where it is missing",
+            "end": "the number of a state, of which `next` has `symbols` for each, or less than 0 where none is "
+            "known, -1 where it is missing",
         },
-        "steps for steps * outputs", "byte, 2, 0 2 0 2 1 3 1 3, 4, 0 3 3 0 1 2 2 1, 3, 0, -1: 2 1 1 0 1 0 2 1 0 1 1 2 gives 1 0 1", None, {"symbols": 1, "next": [0], "outputs": 1, "output": [0], "steps": 1},
+        "steps for steps * outputs",
+        "byte, 2, 0 2 0 2 1 3 1 3, 4, 0 3 3 0 1 2 2 1, 3, 0, -1: 2 1 1 0 1 0 2 1 0 1 1 2 gives 1 0 1",
+        None,
+        {"symbols": 1, "next": [0], "outputs": 1, "output": [0], "steps": 1},
     ),
 }
 
@@ -694,10 +747,28 @@ class KindBlocks:
     ) -> str: ...
 
     @overload
-    def block(self, name: str, kind: Literal["abs"], *, type: Type, tags: Policy = ..., multiple: Number = ..., capacity: Number = ...) -> str: ...
+    def block(
+        self,
+        name: str,
+        kind: Literal["abs"],
+        *,
+        type: Type,
+        tags: Policy = ...,
+        multiple: Number = ...,
+        capacity: Number = ...,
+    ) -> str: ...
 
     @overload
-    def block(self, name: str, kind: Literal["not"], *, type: Type, tags: Policy = ..., multiple: Number = ..., capacity: Number = ...) -> str: ...
+    def block(
+        self,
+        name: str,
+        kind: Literal["not"],
+        *,
+        type: Type,
+        tags: Policy = ...,
+        multiple: Number = ...,
+        capacity: Number = ...,
+    ) -> str: ...
 
     @overload
     def block(
@@ -713,10 +784,28 @@ class KindBlocks:
     ) -> str: ...
 
     @overload
-    def block(self, name: str, kind: Literal["add"], *, type: Type, tags: Policy = ..., multiple: Number = ..., capacity: Number = ...) -> str: ...
+    def block(
+        self,
+        name: str,
+        kind: Literal["add"],
+        *,
+        type: Type,
+        tags: Policy = ...,
+        multiple: Number = ...,
+        capacity: Number = ...,
+    ) -> str: ...
 
     @overload
-    def block(self, name: str, kind: Literal["sub"], *, type: Type, tags: Policy = ..., multiple: Number = ..., capacity: Number = ...) -> str: ...
+    def block(
+        self,
+        name: str,
+        kind: Literal["sub"],
+        *,
+        type: Type,
+        tags: Policy = ...,
+        multiple: Number = ...,
+        capacity: Number = ...,
+    ) -> str: ...
 
     @overload
     def block(
@@ -731,7 +820,16 @@ class KindBlocks:
     ) -> str: ...
 
     @overload
-    def block(self, name: str, kind: Literal["divide"], *, type: Type, tags: Policy = ..., multiple: Number = ..., capacity: Number = ...) -> str: ...
+    def block(
+        self,
+        name: str,
+        kind: Literal["divide"],
+        *,
+        type: Type,
+        tags: Policy = ...,
+        multiple: Number = ...,
+        capacity: Number = ...,
+    ) -> str: ...
 
     @overload
     def block(
@@ -758,13 +856,40 @@ class KindBlocks:
     ) -> str: ...
 
     @overload
-    def block(self, name: str, kind: Literal["and"], *, type: Type, tags: Policy = ..., multiple: Number = ..., capacity: Number = ...) -> str: ...
+    def block(
+        self,
+        name: str,
+        kind: Literal["and"],
+        *,
+        type: Type,
+        tags: Policy = ...,
+        multiple: Number = ...,
+        capacity: Number = ...,
+    ) -> str: ...
 
     @overload
-    def block(self, name: str, kind: Literal["or"], *, type: Type, tags: Policy = ..., multiple: Number = ..., capacity: Number = ...) -> str: ...
+    def block(
+        self,
+        name: str,
+        kind: Literal["or"],
+        *,
+        type: Type,
+        tags: Policy = ...,
+        multiple: Number = ...,
+        capacity: Number = ...,
+    ) -> str: ...
 
     @overload
-    def block(self, name: str, kind: Literal["xor"], *, type: Type, tags: Policy = ..., multiple: Number = ..., capacity: Number = ...) -> str: ...
+    def block(
+        self,
+        name: str,
+        kind: Literal["xor"],
+        *,
+        type: Type,
+        tags: Policy = ...,
+        multiple: Number = ...,
+        capacity: Number = ...,
+    ) -> str: ...
 
     @overload
     def block(

@@ -61,7 +61,9 @@ def _files(tree: Tree, missing: List[str]) -> Iterator[Tuple[str, str]]:
     for it in written(tree):
         text = it.in_file(texts.get(it.file, tree.text(it.file)))
         if text is None:
-            missing.append(f"{it.file}: it has not once, and one behind the other: {it.before.strip()!r}, {it.behind.strip()!r}")
+            missing.append(
+                f"{it.file}: it has not once, and one behind the other: {it.before.strip()!r}, {it.behind.strip()!r}"
+            )
         else:
             texts[it.file] = text
     yield from texts.items()
@@ -72,4 +74,5 @@ def _difference(file: str, found: str, wanted: str) -> str:
     lines = [*zip(found.splitlines(), wanted.splitlines()), ("(its end)", "(its end)")]
     number = next(at for at, (it, other) in enumerate(lines) if it != other or at == len(lines) - 1)
     ends = [it[number] if number < len(it) else "(its end)" for it in (found.splitlines(), wanted.splitlines())]
-    return f"{file}:{number + 1}: it has {ends[0].strip()!r}, and the table makes {ends[1].strip()!r}: call scripts/generate"
+    found, wanted = (it.strip() for it in ends)
+    return f"{file}:{number + 1}: it has {found!r}, and the table makes {wanted!r}: call scripts/generate"

@@ -14,7 +14,10 @@ from .trees import Tree
 KIND, KIND_SPEC = "crates/kinds/src/kind.rt", "crates/kinds/specs/Kind.antt"
 NAME, NAME_SPEC = "crates/kinds/src/kind_name.rt", "crates/kinds/specs/KindNames.antt"
 WORD_ANSWERS = "crates/kinds/proofs/kind/KindBlock/work/Answers.antt"
-PARAMETERS, PARAMETERS_SPEC = "crates/kind_schema/src/kind_parameters.rt", "crates/kind_schema/specs/KindParameters.antt"
+PARAMETERS, PARAMETERS_SPEC = (
+    "crates/kind_schema/src/kind_parameters.rt",
+    "crates/kind_schema/specs/KindParameters.antt",
+)
 KEYS_SPEC = "crates/kind_schema/specs/Kinds.antt"
 FACADE = "crates/magbelu/src/blocks.rt"
 _SLICES = (("Kinds", "look_back_of"), ("Forgetting", "look_back_of-holds"), ("Placing", "look_back_of-places"))
@@ -39,7 +42,9 @@ def _blocks(tree: Tree, kinds: Sequence[Kind]) -> Iterator[Listing]:
     families = [(it.type, it.family) for it in kinds]
     own = [(name, "kinds" if crate == "crate" else crate) for name, crate in _uses(text)]
     yield Listing(KIND, "what it brings in", FILE, own, families, in_order=False, is_part=True)
-    yield Listing(FACADE, "the types that it has", FILE, _uses(tree.text(FACADE)), families, in_order=False, is_part=True)
+    yield Listing(
+        FACADE, "the types that it has", FILE, _uses(tree.text(FACADE)), families, in_order=False, is_part=True
+    )
     for family in sorted({it.family for it in kinds}):
         file = f"crates/{family}/src/lib.rt"
         types = named([it.type for it in kinds if it.family == family])
@@ -60,9 +65,13 @@ def _names(tree: Tree, kinds: Sequence[Kind]) -> Iterator[Listing]:
     text, spec = tree.text(NAME), tree.text(NAME_SPEC)
     names = [(it.type, it.name) for it in kinds]
     own = [(it.type, it.type) for it in kinds]
-    yield _listing(NAME, "`KindName`", named(re.findall(r"(?m)^    (\w+),$", inside(text, "pub enum KindName {"))), kinds)
+    yield _listing(
+        NAME, "`KindName`", named(re.findall(r"(?m)^    (\w+),$", inside(text, "pub enum KindName {"))), kinds
+    )
     count = re.findall(r"const KINDS: \[KindName; (\d+)\]", text)
-    yield Listing(NAME, "the type of `KINDS`", FILE, [("its length", it) for it in count], [("its length", str(len(kinds)))])
+    yield Listing(
+        NAME, "the type of `KINDS`", FILE, [("its length", it) for it in count], [("its length", str(len(kinds)))]
+    )
     listed = inside(text, "const KINDS: [KindName; %s] = [" % "".join(count))
     yield _listing(NAME, "`KINDS`", named(re.findall(r"KindName::(\w+),", listed)), kinds)
     yield Listing(NAME, "`text`", FILE, said(arms_of(text, "text")), names)
@@ -89,7 +98,9 @@ def _parameters(tree: Tree, kinds: Sequence[Kind]) -> Iterator[Listing]:
     yield Listing(PARAMETERS, "`parameters_of`", FILE, found, wanted, in_order=False)
     spec = tree.text(PARAMETERS_SPEC)
     found = [(last(it), _of_antt(_unfolded(spec, value))) for it, value in rows(spec, "parameters_of")]
-    yield Listing(PARAMETERS_SPEC, "`parameters_of`", FILE, found, [(type, it) for type, it in wanted if it] + [("_", "")])
+    yield Listing(
+        PARAMETERS_SPEC, "`parameters_of`", FILE, found, [(type, it) for type, it in wanted if it] + [("_", "")]
+    )
 
 
 def _shown(parameters: Mapping[str, Range]) -> str:

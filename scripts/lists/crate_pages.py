@@ -62,7 +62,9 @@ def _defaults(tree: Tree, table: KindTable) -> Iterator[Listing]:
     yield Listing(KEY_SPEC, "`parameter_form`", FILE, found, forms, in_order=False)
     optional = [it for it in table.parameters.values() if it.default is not None]
     found = re.findall(r"Parameter::(\w+)", body(text, "is_needed_parameter"))
-    yield Listing(KEY, "`is_needed_parameter`", FILE, named(found), named([it.variant for it in optional]), in_order=False)
+    yield Listing(
+        KEY, "`is_needed_parameter`", FILE, named(found), named([it.variant for it in optional]), in_order=False
+    )
     wanted = [(it.variant, "false") for it in optional] + [("_", "true")]
     yield Listing(KEY_SPEC, "`is_needed_parameter`", FILE, _plain(spec, "is_needed_parameter"), wanted, in_order=False)
     # (0 stands for a text)
@@ -147,7 +149,9 @@ def _stem(block: GnuRadioBlock) -> str:
 def _gnu_radio(tree: Tree, table: KindTable) -> Iterator[Listing]:
     """What GNU Radio calls kinds and parameters."""
     text = tree.text(GNU_RADIO)
-    kinds = [(name, it.type) for it in table.kinds for name in (*it.called, *map(_stem, it.gnu_radio)) if name != it.name]
+    kinds = [
+        (name, it.type) for it in table.kinds for name in (*it.called, *map(_stem, it.gnu_radio)) if name != it.name
+    ]
     found = re.findall(r'\(b"(\w+)", KindName::(\w+)\)', text)
     yield Listing(GNU_RADIO, "`KINDS`", FILE, found, kinds, in_order=False)
     found = re.findall(r'\(\s*b"(\w+)",\s*Key::Parameter\(Parameter::(\w+)\),\s*"([^"]*)",?\s*\)', text)

@@ -10,7 +10,7 @@ from .trees import Written, headed
 
 _FOLDER = "python/flow_from_grc"
 # How long an entry is before its parts stand in lines of their own.
-_WIDE = 110
+_WIDE = 120
 _RANGES = '''from __future__ import annotations
 
 from typing import Mapping
@@ -38,10 +38,14 @@ def written(table: KindTable) -> Iterator[Written]:
     rows = []
     for kind in table.kinds:
         ranges = [f"{_text(table.parameters[name].key)}: {_range(range)}" for name, range in kind.parameters.items()]
-        rows += [f"    {_text(kind.name)}: {{{', '.join(ranges)}}},"] if ranges else []
+        whole = f"    {_text(kind.name)}: {{{', '.join(ranges)}}},"
+        if len(whole) <= _WIDE:
+            rows += [whole] if ranges else []
+        else:
+            rows += [f"    {_text(kind.name)}: {{", *(f"        {it}," for it in ranges), "    },"]
     doc = "The ranges of the parameters of kinds, as far as they are numbers."
     yield headed(f"{_FOLDER}/kind_ranges.py", FILE, doc, _RANGES % "\n".join(rows))
-    rows = [f"    {_text(it.id)}: {_block(table, kind, it)}," for kind in table.kinds for it in kind.gnu_radio]
+    rows = [f"    {_text(it.id)}: {_block(table, kind, it)}" for kind in table.kinds for it in kind.gnu_radio]
     doc = "The blocks of GNU Radio for which a kind stands alone."
     yield headed(f"{_FOLDER}/single_kinds.py", FILE, doc, _KINDS % "\n".join(rows))
 
@@ -71,8 +75,10 @@ def _block(table: KindTable, kind: Kind, it: GnuRadioBlock) -> str:
     words += [f"first_type={_text(it.first_type)}"] if it.first_type else []
     words += [f"first_count={_text(it.first_count)}"] if it.first_count else []
     words += [f"note=notes.{it.note}"] if it.note else []
-    whole = f"block({', '.join(words)})"
-    return whole if len(whole) <= _WIDE else "block(\n%s    )" % "".join(f"        {word},\n" for word in words)
+    whole = f"block({', '.join(words)}),"
+    if len(f"    {_text(it.id)}: {whole}") <= _WIDE:
+        return whole
+    return "block(\n%s    )," % "".join(f"        {word},\n" for word in words)
 
 
 def _tuple(texts: Sequence[str]) -> str:

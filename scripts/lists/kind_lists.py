@@ -22,11 +22,18 @@ def written(table: KindTable) -> Iterator[Written]:
     yield marked("tests/graph_files/drawings.rs", FILE, "KINDS", _drawn(table))
     # (In these no line can say by what they are written.)
     yield Written("tests/cases/explained/far_kind/stderr", names, "; there are: ", "\n")
-    yield Written("README.md", str(len(kinds)), "[refusals](docs/user/REFUSALS.md), [the ", " kinds](docs/user/KINDS.md), ")
+    yield Written(
+        "README.md", str(len(kinds)), "[refusals](docs/user/REFUSALS.md), [the ", " kinds](docs/user/KINDS.md), "
+    )
     spaced = " ".join(kind.name for kind in kinds)
-    yield Written("share/bash-completion/completions/flow", spaced, '_flow_kinds() { echo "', '"; }\n\n# _flow_kind OPTION')
+    yield Written(
+        "share/bash-completion/completions/flow", spaced, '_flow_kinds() { echo "', '"; }\n\n# _flow_kind OPTION'
+    )
     yield Written("share/zsh/site-functions/_flow", spaced, 'local kinds="', '"\n    local curcontext=')
-    yield Written("share/fish/vendor_completions.d/flow.fish", spaced, "__flow_is kinds new' -a '", "'\ncomplete -c flow -n 'not __flow_is help' -s h")
+    yield Written(
+        "share/fish/vendor_completions.d/flow.fish", spaced, "__flow_is kinds new' -a '",
+        "'\ncomplete -c flow -n 'not __flow_is help' -s h",
+    )
 
 
 def _page(table: KindTable) -> str:
@@ -60,7 +67,9 @@ def _toml(value: Value) -> str:
 def _keys(table: KindTable, kind: Kind, item: str, values: Mapping[str, Value]) -> List[str]:
     """The lines of a block of a graph file, on items of this type where the kind has types."""
     typed = [] if kind.items == "bytes" else [f'type = "{item}"']
-    return typed + [f"{table.parameters[name].key} = {_toml(values[name])}" for name in kind.parameters if name in values]
+    return typed + [
+        f"{table.parameters[name].key} = {_toml(values[name])}" for name in kind.parameters if name in values
+    ]
 
 
 def _tried(table: KindTable) -> str:
@@ -84,7 +93,9 @@ def _drawn(table: KindTable) -> str:
         if not kind.end:
             item = "byte" if kind.items == "bytes" else "int"
             keys = "\n".join(_keys(table, kind, "int", kind.least))
-            rows.append([kind.name, keys, item, str(kind.least.get("to", kind.gives or item)), _note(kind), kind.inputs])
+            rows.append(
+                [kind.name, keys, item, str(kind.least.get("to", kind.gives or item)), _note(kind), kind.inputs]
+            )
     return _const("KINDS", "(&str, &str, &str, &str, &str, usize)", rows)
 
 

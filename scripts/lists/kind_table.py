@@ -12,7 +12,10 @@ from .tables import WrongTable, camel, entry, has, of_sort, only, tables_in
 FILE = "kinds.toml"
 ITEMS = ("any", "wide", "bytes")
 ENDS = ("source", "sink")
-_OPTIONAL = ("end", "rate", "example", "parameters", "setting", "drawn", "gives", "inputs", "tried", "least", "kept", "called", "gnu_radio")
+_OPTIONAL = (
+    "end", "rate", "example", "parameters", "setting", "drawn", "gives", "inputs", "tried", "least", "kept", "called",
+    "gnu_radio",
+)
 Value = Union[int, str, Sequence[int]]
 # How many ports a block of GNU Radio has: so many, or as many as its parameter of this name says.
 Ports = Union[int, str]
@@ -120,7 +123,9 @@ def read_kinds(text: str) -> KindTable:
 
 def _parameter(name: str, table: Mapping[str, Any]) -> Parameter:
     only(table, ("key", "default", "called", "differs"), f"{FILE}: parameter.{name}")
-    return Parameter(name, table.get("key", name), table.get("default"), table.get("called", ()), table.get("differs", {}))
+    return Parameter(
+        name, table.get("key", name), table.get("default"), table.get("called", ()), table.get("differs", {})
+    )
 
 
 def _range(name: str, table: Mapping[str, Any]) -> Range:
@@ -137,7 +142,9 @@ def _range(name: str, table: Mapping[str, Any]) -> Range:
     return Range((camel(name),), words, form, table.get("kept", False), **numbers)
 
 
-def _kind(name: str, table: Mapping[str, Any], parameters: Mapping[str, Parameter], ranges: Mapping[str, Range]) -> Kind:
+def _kind(
+    name: str, table: Mapping[str, Any], parameters: Mapping[str, Parameter], ranges: Mapping[str, Range]
+) -> Kind:
     where = f"{FILE}: kind.{name}"
     needed = ("type", "doc", "family", "items", "line")
     only(table, (*needed, *_OPTIONAL), where)

@@ -3,6 +3,7 @@
 from __future__ import annotations
 
 import json
+import textwrap
 from typing import Iterator, List
 
 from .kind_lists import parameters_of
@@ -10,7 +11,7 @@ from .kind_table import FILE, Kind, KindTable, Range
 from .trees import Written, headed
 
 # How long a line is before its parts stand in lines of their own.
-_WIDE = 150
+_WIDE = 120
 _MODULE = '''from __future__ import annotations
 
 from typing import Iterable, Literal, Mapping, NamedTuple, Optional, Sequence, SupportsIndex, Union, overload
@@ -26,8 +27,8 @@ Numbers = Iterable[SupportsIndex]
 
 class Kind(NamedTuple):
     """A kind of blocks: what it gives, the types that a block may have, what each parameter may be, how many items it
-    gives for how many, an example, the parameter that may be set while it runs, and values for those that a block needs,
-    whatever its type."""
+    gives for how many, an example, the parameter that may be set while it runs, and values for those that a block
+    needs, whatever its type."""
 
     name: str
     equation: str
@@ -42,7 +43,8 @@ class Kind(NamedTuple):
     def page(self) -> str:
         """What `flow kinds` prints of it."""
         rows = [*self.parameters.items(), ("rate", self.rate), ("example", self.example)]
-        return "".join(["%%s: %%s\\n" %% (self.name, self.equation), *("    %%s: %%s\\n" %% row for row in rows if row[1])])
+        said = ("    %%s: %%s\\n" %% row for row in rows if row[1])
+        return "".join(["%%s: %%s\\n" %% (self.name, self.equation), *said])
 
 
 #: The kinds by their names, in the order of `flow kinds`.
@@ -55,7 +57,8 @@ KINDS: Mapping[str, str] = {name: it.page for name, it in KIND_ROWS.items()}
 
 
 class KindBlocks:
-    """The keywords of each kind's parameters, for those who look at types. A parameter that may be left out has the value `...` here."""
+    """The keywords of each kind's parameters, for those who look at types. A parameter that may be left out has the
+    value `...` here."""
 %s
 
     def block(self, name: str, kind: str, **keys: object) -> str:
@@ -81,13 +84,31 @@ def _row(table: KindTable, kind: Kind) -> str:
     keys = {name: table.parameters[name].key for name in kind.parameters}
     least = {keys[name]: value for name, value in kind.least.items() if table.parameters[name].default is None}
     setting = json.dumps(keys[kind.setting]) if kind.setting else None
-    parameters = [f"            {json.dumps(key)}: {json.dumps(says)}," for key, says in parameters_of(table, kind).items()]
-    lines = [
-        f"{json.dumps(kind.name)}, {json.dumps(kind.line)}, {_types_of(kind)},",
-        *(["{", *parameters, "        },"] if parameters else ["{},"]),
-        f"{json.dumps(kind.rate)}, {json.dumps(kind.example)}, {setting}, {json.dumps(least)},",
+    parameters = [
+        line for key, says in parameters_of(table, kind).items() for line in _text(says, 12, f"{json.dumps(key)}: ")
     ]
-    return "\n".join(["Kind(", *(it if it.startswith("  ") else f"        {it}" for it in lines), "    )"])
+    lines = [
+        *_parts(_text(kind.name), _text(kind.line), [f"{_types_of(kind)},"]),
+        *(["        {", *parameters, "        },"] if parameters else ["        {},"]),
+        *_parts(_text(kind.rate), _text(kind.example), [f"{setting},"], [f"{json.dumps(least)},"]),
+    ]
+    return "\n".join(["Kind(", *lines, "    )"])
+
+
+def _text(text: str, indent: int = 8, before: str = "") -> List[str]:
+    """A text as Python writes it, behind what stands before it, in as many literals as its lines need."""
+    parts = textwrap.wrap(text, _WIDE - indent - len(before) - 4, drop_whitespace=False) or [""]
+    lines = [json.dumps(it) for it in parts]
+    lines[0] = before + lines[0]
+    return [" " * indent + it for it in [*lines[:-1], lines[-1] + ","]]
+
+
+def _parts(*parts: List[str]) -> List[str]:
+    """Arguments, each by its lines: in one line where they fit, and else each from a line of its own on."""
+    whole = f"        {' '.join(it[0].strip() for it in parts)}"
+    if all(len(it) == 1 for it in parts) and len(whole) <= _WIDE:
+        return [whole]
+    return [f"        {line.strip()}" for lines in parts for line in lines]
 
 
 def _types_of(kind: Kind) -> str:
