@@ -31,18 +31,27 @@ def stream_mux(settings: Settings) -> Node:
     settings.ones("vlen")
     lengths = settings.wholes("lengths", 1, _MOST_ROUND, MOST_PORTS)
     if len(lengths) != settings.value("num_inputs"):
-        raise settings.refused("lengths", Code.BAD_PARAMETER, "it has %d lengths, and not one for each of its inputs" % len(lengths))
+        raise settings.refused(
+            "lengths", Code.BAD_PARAMETER, "it has %d lengths, and not one for each of its inputs" % len(lengths)
+        )
     if sum(lengths) > _MOST_ROUND:
-        raise settings.refused("lengths", Code.BAD_PARAMETER, "its lengths come to %d together; a kind takes %d" % (sum(lengths), _MOST_ROUND))
+        raise settings.refused(
+            "lengths", Code.BAD_PARAMETER,
+            "its lengths come to %d together; a kind takes %d" % (sum(lengths), _MOST_ROUND),
+        )
     settings.note("gives whole rounds only; GNU Radio's also gives the beginning of the last")
-    return Node(settings.block, [item] * len(lengths), [item], [Part("stream_mux", {"type": str(item), "lengths": lengths})])
+    return Node(
+        settings.block, [item] * len(lengths), [item], [Part("stream_mux", {"type": str(item), "lengths": lengths})]
+    )
 
 
 def moving_average(settings: Settings) -> Node:
     """The sum of the last items, and behind it the scale."""
     item = settings.item_type(WIDE)
     settings.ones("vlen")
-    parts = [Part("moving_sum", {"type": str(item), "length": settings.whole("length", 1, limit("moving_sum", "length"))})]
+    parts = [
+        Part("moving_sum", {"type": str(item), "length": settings.whole("length", 1, limit("moving_sum", "length"))})
+    ]
     scale = settings.whole("scale", item.least, item.most)
     if scale != 1:
         parts.append(Part("multiply_const", {"type": str(item), "value": scale}))
@@ -62,7 +71,10 @@ def char_to_short(settings: Settings) -> Node:
     """GNU Radio's block makes the byte the highest of the short, so that it takes it with a sign."""
     settings.ones("vlen")
     byte, short = ItemType.BYTE, ItemType.SHORT
-    parts = [Part("convert", {"type": str(byte), "to": str(short)}), Part("multiply_const", {"type": str(short), "value": 256})]
+    parts = [
+        Part("convert", {"type": str(byte), "to": str(short)}),
+        Part("multiply_const", {"type": str(short), "value": 256}),
+    ]
     return Node(settings.block, [byte], [short], parts)
 
 
@@ -70,7 +82,10 @@ def short_to_char(settings: Settings) -> Node:
     """The lowest byte is cleared, so that the highest is what comes to 256 times."""
     settings.ones("vlen")
     byte, short = ItemType.BYTE, ItemType.SHORT
-    parts = [Part("and_const", {"type": str(short), "value": -256}), Part("scale", {"type": str(short), "factor": 1, "shift": 8})]
+    parts = [
+        Part("and_const", {"type": str(short), "value": -256}),
+        Part("scale", {"type": str(short), "factor": 1, "shift": 8}),
+    ]
     return Node(settings.block, [short], [byte], [*parts, Part("convert", {"type": str(short), "to": str(byte)})])
 
 
@@ -78,10 +93,15 @@ def endian_swap(settings: Settings) -> Node:
     """The bytes of an item, the highest first, in reverse order."""
     item = {"s16": ItemType.SHORT, "s32": ItemType.INT}.get(settings.choice("type"))
     if item is None:
-        raise settings.refused("type", Code.WRONG_TYPE, "its type is %s; a kind for it takes s16 or s32" % settings.choice("type"))
+        raise settings.refused(
+            "type", Code.WRONG_TYPE, "its type is %s; a kind for it takes s16 or s32" % settings.choice("type")
+        )
     keys = {"type": str(item), "order": "msb_first", "bits": ItemType.BYTE.bits}
     order = list(reversed(range(item.bits // ItemType.BYTE.bits)))
-    parts = [Part("packed_to_unpacked", {**keys}), Part("permute", {"type": str(item), "order": order}), Part("unpacked_to_packed", {**keys})]
+    parts = [
+        Part("packed_to_unpacked", {**keys}), Part("permute", {"type": str(item), "order": order}),
+        Part("unpacked_to_packed", {**keys}),
+    ]
     return Node(settings.block, [item], [item], parts)
 
 
@@ -91,7 +111,10 @@ def selector(settings: Settings) -> Node:
     settings.ones("vlen")
     inputs, outputs = (settings.whole(key, 1, MOST_PORTS) for key in ("num_inputs", "num_outputs"))
     chosen, given = settings.whole("input_index", 0, inputs - 1), settings.whole("output_index", 0, outputs - 1)
-    parts = [Part("mute", {"type": str(item), "on": int(at != chosen), **({"tags": "none"} if at != chosen else {})}) for at in range(inputs)]
+    parts = [
+        Part("mute", {"type": str(item), "on": int(at != chosen), **({"tags": "none"} if at != chosen else {})})
+        for at in range(inputs)
+    ]
     parts.append(Part("add", {"type": str(item)}))
     inner, gives = [(End(at), End(inputs, at)) for at in range(inputs)], []
     for at in range(outputs):
@@ -102,7 +125,10 @@ def selector(settings: Settings) -> Node:
             parts.append(Part("head", {"type": str(item), "n": 0}))
     if inputs > 1:
         settings.note("ends with the shortest of its inputs; GNU Radio's ends with the chosen one")
-    return Node(settings.block, [item] * inputs, [item] * outputs, parts, takes=[[End(at)] for at in range(inputs)], gives=gives, inner=inner)
+    return Node(
+        settings.block, [item] * inputs, [item] * outputs, parts, takes=[[End(at)] for at in range(inputs)],
+        gives=gives, inner=inner,
+    )
 
 
 def tag_share(settings: Settings) -> Node:
@@ -114,7 +140,10 @@ def tag_share(settings: Settings) -> Node:
     if shared is not item:
         parts.append(Part("convert", {"type": str(shared), "to": str(item)}))
         inner.append((End(2), End(1)))
-    return Node(settings.block, [item, shared], [item], parts, takes=[[End(0)], [End(len(parts) - 1)]], gives=[End(0)], inner=inner)
+    return Node(
+        settings.block, [item, shared], [item], parts, takes=[[End(0)], [End(len(parts) - 1)]], gives=[End(0)],
+        inner=inner,
+    )
 
 
 def sample_and_hold(settings: Settings) -> Node:

@@ -46,7 +46,9 @@ def graph_of(drawing: Drawing, report: Report) -> Graph:
 def _refuse_hierarchy(drawing: Drawing, report: Report) -> None:
     option = drawing.options.get("generate_options")
     if option is not None and option.value.startswith("hb"):
-        report.refuse(Refused(option.line, Code.UNKNOWN_KIND, "the drawing is a hierarchical block, which stands for no graph"))
+        report.refuse(
+            Refused(option.line, Code.UNKNOWN_KIND, "the drawing is a hierarchical block, which stands for no graph")
+        )
 
 
 def _unique(blocks: Sequence[DrawnBlock], report: Report) -> List[DrawnBlock]:
@@ -67,7 +69,9 @@ def _node(block: DrawnBlock, variables: Variables, report: Report) -> Optional[N
         return Node(block, [None], [None])
     try:
         if block.id not in TABLE:
-            text = "%s is a %s, for which there is no kind: %s" % (shown(block.name), shown(block.id), stand_in(block.id))
+            text = "%s is a %s, for which there is no kind: %s" % (
+                shown(block.name), shown(block.id), stand_in(block.id),
+            )
             raise Refused(block.line, Code.UNKNOWN_KIND, text)
         entry = TABLE[block.id]
         settings = Settings(block, entry.defaults, variables, report)
@@ -90,7 +94,10 @@ def _test_names(node: Node) -> None:
     """Refuses a name that no graph file takes."""
     for name in node.names():
         if not 1 <= len(name) <= MOST_NAME or not set(name) <= _NAME_LETTERS:
-            text = "the name %s is not 1 to %d letters of ASCII, digits, _ . -: give the block another ID" % (shown(name), MOST_NAME)
+            text = "the name %s is not 1 to %d letters of ASCII, digits, _ . -: give the block another ID" % (
+                shown(name),
+                MOST_NAME,
+            )
             raise Refused(node.block.line, Code.BAD_PARAMETER, text)
 
 
@@ -99,7 +106,9 @@ def _virtual_connections(blocks: Sequence[DrawnBlock], report: Report) -> List[D
     sinks: Dict[str, DrawnBlock] = {}
     for block, stream in _streams(blocks, _VIRTUAL_SINK):
         if stream in sinks:
-            report.refuse(Refused(block.line, Code.DUPLICATE_NAME, "two Virtual Sinks have the stream %s" % shown(stream)))
+            report.refuse(
+                Refused(block.line, Code.DUPLICATE_NAME, "two Virtual Sinks have the stream %s" % shown(stream))
+            )
         sinks.setdefault(stream, block)
     connections = []
     for block, stream in _streams(blocks, _VIRTUAL_SOURCE):
@@ -110,7 +119,11 @@ def _virtual_connections(blocks: Sequence[DrawnBlock], report: Report) -> List[D
 
 def _streams(blocks: Sequence[DrawnBlock], kind: str) -> List[Tuple[DrawnBlock, str]]:
     """The blocks of one of the two virtual kinds, each with the name of its stream."""
-    return [(it, it.parameters["stream_id"].value) for it in blocks if it.id == kind and it.state != "bypassed" and "stream_id" in it.parameters]
+    return [
+        (it, it.parameters["stream_id"].value)
+        for it in blocks
+        if it.id == kind and it.state != "bypassed" and "stream_id" in it.parameters
+    ]
 
 
 def _add(graph: Graph, node: Node) -> None:
@@ -130,9 +143,14 @@ def _test_whole(graph: Graph, report: Report) -> None:
     """Refuses what is wrong with no single block."""
     if report.faults:
         return
-    for what, count, most in (("blocks", len(graph.blocks), MOST_BLOCKS), ("connections", len(graph.connections), MOST_CONNECTIONS)):
+    for what, count, most in (
+        ("blocks", len(graph.blocks), MOST_BLOCKS),
+        ("connections", len(graph.connections), MOST_CONNECTIONS),
+    ):
         if count > most:
-            report.refuse(Refused(1, Code.TOO_LARGE, "the graph has %d %s; a graph file has at most %d" % (count, what, most)))
+            report.refuse(
+                Refused(1, Code.TOO_LARGE, "the graph has %d %s; a graph file has at most %d" % (count, what, most))
+            )
     if not graph.blocks:
         report.refuse(Refused(1, Code.MISSING_KEY, "the drawing has no blocks that a graph could have"))
     readers: Dict[str, List[str]] = {it.name: [] for it in graph.blocks}

@@ -62,7 +62,9 @@ def read_drawing(data: bytes, report: Report) -> Drawing:
     if "options" in top:
         options = _parameters(_mapping(top["options"], "the options"))
     blocks = [it for it in (_unless_refused(_block, node, report) for node in _sequence(top, "blocks")) if it]
-    connections = [it for it in (_unless_refused(_connection, node, report) for node in _sequence(top, "connections")) if it]
+    connections = [
+        it for it in (_unless_refused(_connection, node, report) for node in _sequence(top, "connections")) if it
+    ]
     return Drawing(options, blocks, connections)
 
 
@@ -80,15 +82,22 @@ def _document(data: bytes) -> yaml.Node:
     except UnicodeDecodeError as error:
         raise Refused(data.count(b"\n", 0, error.start) + 1, Code.SYNTAX, "the file is not UTF-8") from None
     if text.lstrip().startswith("<"):
-        raise Refused(1, Code.SYNTAX, "the file is XML, as GNU Radio 3.7 wrote it: open it in Companion 3.10 and save it")
+        raise Refused(
+            1, Code.SYNTAX, "the file is XML, as GNU Radio 3.7 wrote it: open it in Companion 3.10 and save it"
+        )
     try:
         node = yaml.compose(text, Loader=yaml.SafeLoader)
     except yaml.MarkedYAMLError as error:
         mark = error.problem_mark or error.context_mark
-        raise Refused(mark.line + 1 if mark else 1, Code.SYNTAX, "the file is not YAML: %s" % shown(error.problem or str(error.context))) from None
+        raise Refused(
+            mark.line + 1 if mark else 1, Code.SYNTAX,
+            "the file is not YAML: %s" % shown(error.problem or str(error.context)),
+        ) from None
     except yaml.reader.ReaderError as error:
         line = text.count("\n", 0, error.position) + 1
-        raise Refused(line, Code.SYNTAX, "the file is not YAML: it has the character %s" % shown(chr(error.character))) from None
+        raise Refused(
+            line, Code.SYNTAX, "the file is not YAML: it has the character %s" % shown(chr(error.character))
+        ) from None
     except RecursionError:
         raise Refused(1, Code.SYNTAX, "values of the file are nested too deep") from None
     if node is None:
@@ -104,7 +113,10 @@ def _test_format(top: Mapping[str, yaml.Node]) -> None:
         raise Refused(_line(top["metadata"]), Code.MISSING_KEY, "the metadata has no file_format")
     text = _text(metadata["file_format"], "file_format")
     if text.value != _FILE_FORMAT:
-        raise Refused(text.line, Code.WRONG_TYPE, "the file has the format %s, and Companion 3.10 writes %s" % (shown(text.value), _FILE_FORMAT))
+        raise Refused(
+            text.line, Code.WRONG_TYPE,
+            "the file has the format %s, and Companion 3.10 writes %s" % (shown(text.value), _FILE_FORMAT),
+        )
 
 
 def _block(node: yaml.Node) -> DrawnBlock:
@@ -150,7 +162,9 @@ def _mapping(node: yaml.Node, what: str, known: Sequence[str] = ()) -> Dict[str,
         if name in values:
             raise Refused(_line(key), Code.SYNTAX, "%s: the key %s stands twice" % (what, shown(name)))
         if known and name not in known:
-            raise Refused(_line(key), Code.UNKNOWN_KEY, "%s: there is no key %s, but %s" % (what, shown(name), ", ".join(known)))
+            raise Refused(
+                _line(key), Code.UNKNOWN_KEY, "%s: there is no key %s, but %s" % (what, shown(name), ", ".join(known))
+            )
         values[name] = value
     return values
 

@@ -222,7 +222,11 @@ class _Evaluation:
         function = None
         if isinstance(tree.func, ast.Name):
             function = _FUNCTIONS.get(tree.func.id)
-        elif isinstance(tree.func, ast.Attribute) and isinstance(tree.func.value, ast.Name) and tree.func.value.id == "pmt":
+        elif (
+            isinstance(tree.func, ast.Attribute)
+            and isinstance(tree.func.value, ast.Name)
+            and tree.func.value.id == "pmt"
+        ):
             function = _PMT_FUNCTIONS.get(tree.func.attr)
         if function is None or tree.keywords:
             raise Unclear("it has a call that is not evaluated here: %s" % shown(ast.unparse(tree)))

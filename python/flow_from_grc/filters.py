@@ -46,7 +46,9 @@ def float_to_short(settings: Settings) -> Node:
 def _filter(settings: Settings, kind: str, rate: str, rate_there: str) -> Node:
     form = settings.choice("type")
     if form not in ("fff", "fsf"):
-        raise settings.refused("type", Code.WRONG_TYPE, "its type is %s; a filter here is fff or fsf, behind a Short To Float" % form)
+        raise settings.refused(
+            "type", Code.WRONG_TYPE, "its type is %s; a filter here is fff or fsf, behind a Short To Float" % form
+        )
     if settings.value("samp_delay") != 0:
         raise settings.refused("samp_delay", Code.BAD_PARAMETER, "a filter here delays no tags")
     taps = settings.wholes("taps", ItemType.SHORT.least, ItemType.SHORT.most, _MOST_TAPS)
@@ -56,5 +58,7 @@ def _filter(settings: Settings, kind: str, rate: str, rate_there: str) -> Node:
         settings.note("has exact sums; GNU Radio's are floats, which these taps may take beyond 24 bits")
     if form == "fsf":
         settings.note("clamps what exceeds 16 bits; GNU Radio's keeps the lowest bits")
-    part = Part(kind, {"type": str(ItemType.SHORT), "taps": taps, rate: settings.whole(rate_there, 1, limit(kind, rate))})
+    part = Part(
+        kind, {"type": str(ItemType.SHORT), "taps": taps, rate: settings.whole(rate_there, 1, limit(kind, rate))}
+    )
     return Node(settings.block, [Floats.SHORTS], [ItemType.SHORT if form == "fsf" else Floats.SUMS], [part])

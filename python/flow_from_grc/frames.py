@@ -20,13 +20,24 @@ _MOST_PUNCTURED = 31
 def block_interleaver(settings: Settings) -> Node:
     """The order is a parameter. Packed bytes are put in order bit by bit, the highest bit first."""
     item = settings.item_type(ANY)
-    order = _tested(settings, "interleaver_indices", settings.wholes("interleaver_indices", 0, _MOST_FRAME - 1, _MOST_FRAME))
-    if settings.word("interleaver_mode", {"interleave": "interleave", "deinterleave": "deinterleave"}) == "deinterleave":
+    order = _tested(
+        settings, "interleaver_indices", settings.wholes("interleaver_indices", 0, _MOST_FRAME - 1, _MOST_FRAME)
+    )
+    if (
+        settings.word("interleaver_mode", {"interleave": "interleave", "deinterleave": "deinterleave"})
+        == "deinterleave"
+    ):
         order = _inverse(order)
     if item is ItemType.BYTE and settings.truth("is_packed"):
         if len(order) % item.bits:
-            raise settings.refused("interleaver_indices", Code.BAD_PARAMETER, "packed bytes have 8 bits each, and interleaver_indices has %d" % len(order))
-        parts = [Part("unpack_k_bits", {"k": item.bits}), _permute(ItemType.BYTE, order), Part("pack_k_bits", {"k": item.bits})]
+            raise settings.refused(
+                "interleaver_indices", Code.BAD_PARAMETER,
+                "packed bytes have 8 bits each, and interleaver_indices has %d" % len(order),
+            )
+        parts = [
+            Part("unpack_k_bits", {"k": item.bits}), _permute(ItemType.BYTE, order),
+            Part("pack_k_bits", {"k": item.bits}),
+        ]
         return Node(settings.block, [item], [item], parts)
     return Node(settings.block, [item], [item], [_permute(item, order)])
 
@@ -53,10 +64,14 @@ def permutation(settings: Settings) -> Node:
     count = settings.whole("interleaver_size", 1, _MOST_FRAME)
     order = _tested(settings, "table", settings.wholes("table", 0, _MOST_FRAME - 1, _MOST_FRAME))
     if len(order) != count:
-        raise settings.refused("table", Code.BAD_PARAMETER, "table has %d numbers, and interleaver_size is %d" % (len(order), count))
+        raise settings.refused(
+            "table", Code.BAD_PARAMETER, "table has %d numbers, and interleaver_size is %d" % (len(order), count)
+        )
     size = settings.whole("syms_per_block", 1, _MOST_FRAME)
     _test_frame(settings, "syms_per_block", count * size)
-    return Node(settings.block, [item], [item], [_permute(item, [at * size + place for at in order for place in range(size)])])
+    return Node(
+        settings.block, [item], [item], [_permute(item, [at * size + place for at in order for place in range(size)])]
+    )
 
 
 def patterned_interleaver(settings: Settings) -> Node:
@@ -79,7 +94,10 @@ def puncture(settings: Settings) -> Node:
     settings.item_type(BYTES)
     kept = _pattern(settings)
     order = [at for at, it in enumerate(kept) if it] + [at for at, it in enumerate(kept) if not it]
-    parts = [_permute(ItemType.BYTE, order), Part("keep_m_in_n", {"type": str(ItemType.BYTE), "m": sum(kept), "n": len(kept)})]
+    parts = [
+        _permute(ItemType.BYTE, order),
+        Part("keep_m_in_n", {"type": str(ItemType.BYTE), "m": sum(kept), "n": len(kept)}),
+    ]
     return Node(settings.block, [ItemType.BYTE], [ItemType.BYTE], parts)
 
 
@@ -92,7 +110,9 @@ def depuncture(settings: Settings) -> Node:
         # (as there, of a last frame that is not whole nothing is given)
         whole = Part("keep_m_in_n", {"type": str(ItemType.BYTE), "m": len(kept), "n": len(kept)})
         return Node(settings.block, [ItemType.BYTE], [ItemType.BYTE], [whole])
-    insert = Part("insert", {"type": str(ItemType.BYTE), "values": [symbol] * missing, "period": len(kept), "offset": 0})
+    insert = Part(
+        "insert", {"type": str(ItemType.BYTE), "values": [symbol] * missing, "period": len(kept), "offset": 0}
+    )
     order = _in_turn([int(it) for it in kept], {0: 0, 1: missing})
     return Node(settings.block, [ItemType.BYTE], [ItemType.BYTE], [insert, _permute(ItemType.BYTE, order)])
 
@@ -119,7 +139,9 @@ def _in_turn(sources: Sequence[int], places: Dict[int, int]) -> List[int]:
 def _tested(settings: Settings, key: str, order: List[int]) -> List[int]:
     """An order, which has each number of its places once."""
     if not order or sorted(order) != list(range(len(order))):
-        raise settings.refused(key, Code.BAD_PARAMETER, "%s has not each number from 0 to one less than its length once" % key)
+        raise settings.refused(
+            key, Code.BAD_PARAMETER, "%s has not each number from 0 to one less than its length once" % key
+        )
     return order
 
 
@@ -130,7 +152,9 @@ def _inverse(order: Sequence[int]) -> List[int]:
 
 def _test_frame(settings: Settings, key: str, count: int) -> None:
     if count > _MOST_FRAME:
-        raise settings.refused(key, Code.BAD_PARAMETER, "a frame has %d items; the kind `permute` takes %d" % (count, _MOST_FRAME))
+        raise settings.refused(
+            key, Code.BAD_PARAMETER, "a frame has %d items; the kind `permute` takes %d" % (count, _MOST_FRAME)
+        )
 
 
 def _permute(item: ItemType, order: Sequence[int]) -> Part:

@@ -41,10 +41,18 @@ def stream_demux(settings: Settings) -> Node:
     settings.ones("vlen")
     lengths = settings.wholes("lengths", 1, _MOST_PERIOD, _MOST_PERIOD)
     if len(lengths) != settings.value("num_outputs"):
-        raise settings.refused("lengths", Code.BAD_PARAMETER, "it has %d lengths, and not one for each of its outputs" % len(lengths))
+        raise settings.refused(
+            "lengths", Code.BAD_PARAMETER, "it has %d lengths, and not one for each of its outputs" % len(lengths)
+        )
     if sum(lengths) > _MOST_PERIOD:
-        raise settings.refused("lengths", Code.BAD_PARAMETER, "its lengths come to %d together; a kind takes %d" % (sum(lengths), _MOST_PERIOD))
-    settings.note("gives whole rounds only, and puts tags where the rate does; GNU Radio's also gives the beginning of the last, and has a tag stay with its item")
+        raise settings.refused(
+            "lengths", Code.BAD_PARAMETER,
+            "its lengths come to %d together; a kind takes %d" % (sum(lengths), _MOST_PERIOD),
+        )
+    settings.note(
+        "gives whole rounds only, and puts tags where the rate does; GNU Radio's also gives the beginning of the last, "
+        "and has a tag stay with its item"
+    )
     return _split(settings, item, lengths)
 
 
@@ -70,6 +78,9 @@ def vector_insert(settings: Settings) -> Node:
     if 0 < offset < len(values):
         text = "its output begins amid its values: offset is 0, or %d to %d" % (len(values), period - 1)
         raise settings.refused("offset", Code.BAD_PARAMETER, text)
-    settings.note("gives whole periods only, and puts tags where the rate does; GNU Radio's ends with its last item, and has a tag stay with its own")
+    settings.note(
+        "gives whole periods only, and puts tags where the rate does; GNU Radio's ends with its last item, and has a "
+        "tag stay with its own"
+    )
     part = Part("insert", {"type": str(item), "values": values, "period": period, "offset": (period - offset) % period})
     return Node(settings.block, [item], [item], [part])

@@ -37,7 +37,12 @@ def main(words: Optional[Sequence[str]] = None) -> int:
         return _REFUSED
     # (a comment is one line, of characters that TOML takes)
     shown_path = options.output if (options.output or "").isprintable() else None
-    text = graph.toml(["Drawn in GNU Radio Companion as %s, and written by %s. To run it:" % (name, _NAME), "    " + graph.command(shown_path)])
+    text = graph.toml(
+        [
+            "Drawn in GNU Radio Companion as %s, and written by %s. To run it:" % (name, _NAME),
+            "    " + graph.command(shown_path),
+        ]
+    )
     try:
         _write(text, options.output, options.file)
     except OSError as error:
@@ -50,9 +55,12 @@ def main(words: Optional[Sequence[str]] = None) -> int:
 def _parser() -> argparse.ArgumentParser:
     parser = argparse.ArgumentParser(
         prog=_NAME,
-        description="Writes a flowgraph that was drawn in GNU Radio Companion 3.10 as a graph file for flow, and on standard error the words that run it.",
+        description="Writes a flowgraph that was drawn in GNU Radio Companion 3.10 as a graph file for flow, and on"
+        " standard error the words that run it.",
     )
-    parser.add_argument("-o", "--output", metavar="GRAPH", help="where the graph file is written, if not on standard output")
+    parser.add_argument(
+        "-o", "--output", metavar="GRAPH", help="where the graph file is written, if not on standard output"
+    )
     parser.add_argument("file", metavar="FILE.grc", help="the drawing")
     return parser
 

@@ -51,7 +51,11 @@ def _going_on(settings: Settings) -> Part:
     mask, seed, bits = _register(settings, _MOST_BITS)
     fitting = seed_that_goes_on(mask, seed, bits)
     if fitting != seed:
-        text = "no register here begins with bits that its mask does not read; the seed 0x%X gives the same items but for these" % fitting
+        text = (
+            "no register here begins with bits that its mask does not read; the seed 0x%X gives the same items but for "
+            "these"
+            % fitting
+        )
         raise settings.refused("seed", Code.BAD_PARAMETER, text)
     return _scrambling("additive_scrambler", bits, mask, init_before(mask, seed, bits))
 

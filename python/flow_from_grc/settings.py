@@ -28,7 +28,10 @@ class Settings:
         for key, text in block.parameters.items():
             if key not in defaults and key not in _COMMON:
                 known = ", ".join(sorted(defaults)) or "none"
-                raise Refused(text.line, Code.UNKNOWN_KEY, "%s has the parameter %s, and a %s has: %s" % (self.name, shown(key), block.id, known))
+                raise Refused(
+                    text.line, Code.UNKNOWN_KEY,
+                    "%s has the parameter %s, and a %s has: %s" % (self.name, shown(key), block.id, known),
+                )
 
     @property
     def name(self) -> str:
@@ -62,7 +65,9 @@ class Settings:
         """What stands here for a choice that is one of these words."""
         found = self.choice(key)
         if found not in words:
-            raise self.refused(key, Code.BAD_PARAMETER, "%s is %s; it is %s" % (key, shown(found or "empty"), " or ".join(words)))
+            raise self.refused(
+                key, Code.BAD_PARAMETER, "%s is %s; it is %s" % (key, shown(found or "empty"), " or ".join(words))
+            )
         return words[found]
 
     def needs(self, key: str, wanted: str, why: str) -> None:
@@ -78,7 +83,9 @@ class Settings:
         """Refuses parameters that count what a kind has one of."""
         for key in keys:
             if self.value(key) != 1:
-                raise self.refused(key, Code.BAD_PARAMETER, "%s is %s; a kind has 1" % (key, shown(self._text(key).value)))
+                raise self.refused(
+                    key, Code.BAD_PARAMETER, "%s is %s; a kind has 1" % (key, shown(self._text(key).value))
+                )
 
     def number(self, key: str) -> float:
         """A number, whole or not."""
@@ -91,7 +98,9 @@ class Settings:
         """A truth value, or a number that stands for one."""
         value = self.value(key)
         if not isinstance(value, (int, float)):
-            raise self.refused(key, Code.WRONG_TYPE, "%s is %s, and no truth value" % (key, shown(self._text(key).value)))
+            raise self.refused(
+                key, Code.WRONG_TYPE, "%s is %s, and no truth value" % (key, shown(self._text(key).value))
+            )
         return bool(value)
 
     def wholes(self, key: str, least: int, most: int, most_count: int) -> List[int]:
@@ -109,7 +118,10 @@ class Settings:
         except OverflowError:
             count = most_count + 1
         if count > most_count:
-            raise self.refused(key, Code.BAD_PARAMETER, "%s has %d values or more; a list here has at most %d" % (key, count, most_count))
+            raise self.refused(
+                key, Code.BAD_PARAMETER,
+                "%s has %d values or more; a list here has at most %d" % (key, count, most_count),
+            )
         return listed
 
     def item_type(self, types: Sequence[ItemType], key: str = "type") -> ItemType:
@@ -119,7 +131,9 @@ class Settings:
             if text == str(it):
                 return it
         names = ", ".join(map(str, types))
-        raise self.refused(key, Code.WRONG_TYPE, "its items are %s; a kind for it takes %s" % (shown(text or "of no type"), names))
+        raise self.refused(
+            key, Code.WRONG_TYPE, "its items are %s; a kind for it takes %s" % (shown(text or "of no type"), names)
+        )
 
     def string(self, key: str) -> str:
         """A text."""
@@ -148,9 +162,14 @@ class Settings:
             if not isinstance(it, TagObject):
                 raise self.refused("tags", Code.WRONG_TYPE, "tags has what is no Tag Object")
             if not 0 <= it.offset < count:
-                raise self.refused("tags", Code.TAG_PLACE, "a tag lies at %d, and the items go from 0 to %d" % (it.offset, count - 1))
+                raise self.refused(
+                    "tags", Code.TAG_PLACE, "a tag lies at %d, and the items go from 0 to %d" % (it.offset, count - 1)
+                )
             if not 1 <= len(it.key) <= _MOST_KEY or not set(it.key) <= _KEY_LETTERS:
-                raise self.refused("tags", Code.TAG_PLACE, "the key %s of a tag is not 1 to %d letters, digits, _ . -" % (shown(it.key), _MOST_KEY))
+                raise self.refused(
+                    "tags", Code.TAG_PLACE,
+                    "the key %s of a tag is not 1 to %d letters, digits, _ . -" % (shown(it.key), _MOST_KEY),
+                )
             if not -_LONG <= it.value < _LONG:
                 raise self.refused("tags", Code.TAG_PLACE, "the value of a tag has more than 64 bits")
             tags.append((it.offset, it.key, it.value))
@@ -158,7 +177,11 @@ class Settings:
 
     def _in_range(self, key: str, value: Any, least: int, most: int) -> int:
         if type(value) is not int:
-            raise self.refused(key, Code.WRONG_TYPE, "%s is %s, and no whole number" % (key, shown(self._text(key).value)))
+            raise self.refused(
+                key, Code.WRONG_TYPE, "%s is %s, and no whole number" % (key, shown(self._text(key).value))
+            )
         if not least <= value <= most:
-            raise self.refused(key, Code.BAD_PARAMETER, "%s is %s; it is %d to %d" % (key, shown(str(value)), least, most))
+            raise self.refused(
+                key, Code.BAD_PARAMETER, "%s is %s; it is %d to %d" % (key, shown(str(value)), least, most)
+            )
         return value

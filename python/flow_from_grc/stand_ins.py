@@ -29,8 +29,15 @@ _STAND_INS: Sequence[Tuple[str, str]] = (
     ("blocks_*_to_float", _FLOATS + "; Short To Float may stand before a filter"),
     ("filter_*", _FLOATS),
     ("analog_rail_ff", _FLOATS + "; with the kind `clip`, which a graph file may have, whole numbers stay in a range"),
-    ("digital_chunks_to_symbols_xx", _FLOATS + "; with the kind `table`, which a graph file may have, bytes become whole numbers"),
-    ("digital_correlate_access_code_*", "nothing puts tags: with the kind `correlate_access_code`, which a graph file may have, bit 1 marks what is behind it"),
+    (
+        "digital_chunks_to_symbols_xx",
+        _FLOATS + "; with the kind `table`, which a graph file may have, bytes become whole numbers",
+    ),
+    (
+        "digital_correlate_access_code_*",
+        "nothing puts tags: with the kind `correlate_access_code`, which a graph file may have, bit 1 marks what is "
+        "behind it",
+    ),
     ("*_pass_filter", _FLOATS + "; a Decimating FIR Filter of whole taps between Short To Float and Float To Short"),
     ("*_reject_filter", _FLOATS + "; a Decimating FIR Filter of whole taps between Short To Float and Float To Short"),
     ("rational_resampler_xxx", _FLOATS + "; an Interpolating FIR Filter and a Keep 1 in N"),

@@ -45,14 +45,23 @@ class _Constellation:
 
 def encoder(settings: Settings) -> Node:
     """A machine of bytes, between converters where its items are others."""
-    takes, gives = (_LETTERS[it] for it in settings.word("type", {it: it for it in ("bb", "bs", "bi", "ss", "si", "ii")}))
+    takes, gives = (
+        _LETTERS[it] for it in settings.word("type", {it: it for it in ("bb", "bs", "bi", "ss", "si", "ii")})
+    )
     machine = _machine(settings)
     start = settings.whole("init_state", 0, machine.states - 1)
     settings.needs("blockwise", "False", "GNU Radio's goes on from one block to the next all the same: switch it off")
     if max(machine.output) > limit("state_machine", "output"):
-        raise settings.refused("fsm_args", Code.BAD_PARAMETER, "its outputs go to %d; a kind has bytes" % max(machine.output))
-    keys: Dict[str, Setting] = {"symbols": machine.symbols, "next": list(machine.next), "output": list(machine.output), "init": start}
-    return Node(settings.block, [takes], [gives], [*_converted(takes, _BYTE), Part("state_machine", keys), *_converted(_BYTE, gives)])
+        raise settings.refused(
+            "fsm_args", Code.BAD_PARAMETER, "its outputs go to %d; a kind has bytes" % max(machine.output)
+        )
+    keys: Dict[str, Setting] = {
+        "symbols": machine.symbols, "next": list(machine.next), "output": list(machine.output), "init": start,
+    }
+    return Node(
+        settings.block, [takes], [gives],
+        [*_converted(takes, _BYTE), Part("state_machine", keys), *_converted(_BYTE, gives)],
+    )
 
 
 def metrics(settings: Settings) -> Node:
@@ -85,13 +94,21 @@ def _converted(item: ItemType, to: ItemType) -> List[Part]:
 
 def _decoder(settings: Settings, machine: _Machine, gives: ItemType) -> List[Part]:
     """A decoder of whole metrics."""
-    counts = (("symbols", machine.symbols, limit("viterbi", "symbols")), ("states", machine.states, _MOST_STATES), ("outputs", machine.outputs, _MOST_METRICS))
+    counts = (
+        ("symbols", machine.symbols, limit("viterbi", "symbols")), ("states", machine.states, _MOST_STATES),
+        ("outputs", machine.outputs, _MOST_METRICS),
+    )
     for what, count, most in counts:
         if count > most:
-            raise settings.refused("fsm_args", Code.BAD_PARAMETER, "it has %d %s; a decoder takes %d" % (count, what, most))
+            raise settings.refused(
+                "fsm_args", Code.BAD_PARAMETER, "it has %d %s; a decoder takes %d" % (count, what, most)
+            )
     steps = settings.whole("block_size", 1, min(_MOST_METRICS // machine.outputs, _MOST_CHOICES // machine.states))
     start, end = (max(settings.whole(key, _INT.least, machine.states - 1), -1) for key in ("init_state", "final_state"))
-    keys: Dict[str, Setting] = {"type": str(_INT), "symbols": machine.symbols, "next": list(machine.next), "outputs": machine.outputs, "output": list(machine.output)}
+    keys: Dict[str, Setting] = {
+        "type": str(_INT), "symbols": machine.symbols, "next": list(machine.next), "outputs": machine.outputs,
+        "output": list(machine.output),
+    }
     keys.update(steps=steps, start=start, end=end)
     return [Part("viterbi", keys), *_converted(_BYTE, gives)]
 
@@ -99,15 +116,21 @@ def _decoder(settings: Settings, machine: _Machine, gives: ItemType) -> List[Par
 def _machine(settings: Settings) -> _Machine:
     """The machine that a drawing gives as I, S, O, NS, OS, or as a convolutional code 1, n, G."""
     given: Any = settings.value("fsm_args")
-    if not isinstance(given, tuple) or not (len(given) == 5 or (len(given) == 3 and given[0] == 1 and isinstance(given[2], (list, tuple)))):
-        raise settings.refused("fsm_args", Code.BAD_PARAMETER, "its machine is neither `I, S, O, NS, OS` in numbers nor a code `1, n, G`")
+    if not isinstance(given, tuple) or not (
+        len(given) == 5 or (len(given) == 3 and given[0] == 1 and isinstance(given[2], (list, tuple)))
+    ):
+        raise settings.refused(
+            "fsm_args", Code.BAD_PARAMETER, "its machine is neither `I, S, O, NS, OS` in numbers nor a code `1, n, G`"
+        )
     machine = _Machine(*given) if len(given) == 5 else _code(settings, *given[1:])
     for count in (machine.symbols, machine.states, machine.outputs):
         _test(settings, count, 1, _INT.most)
     rows = machine.symbols * machine.states
     for numbers, most in ((machine.next, machine.states), (machine.output, machine.outputs)):
         if not isinstance(numbers, (list, tuple)) or len(numbers) != rows or rows > _MOST_ROWS:
-            raise settings.refused("fsm_args", Code.BAD_PARAMETER, "NS and OS have I * S numbers each, and a kind takes %d" % _MOST_ROWS)
+            raise settings.refused(
+                "fsm_args", Code.BAD_PARAMETER, "NS and OS have I * S numbers each, and a kind takes %d" % _MOST_ROWS
+            )
         for it in numbers:
             _test(settings, it, 0, most - 1)
     return machine
@@ -128,7 +151,9 @@ def _code(settings: Settings, count: Any, polynomials: Sequence[Any]) -> _Machin
 
 def _test(settings: Settings, number: Any, least: int, most: int) -> None:
     if type(number) is not int or not least <= number <= most:
-        raise settings.refused("fsm_args", Code.BAD_PARAMETER, "a number of its machine is not %d to %d" % (least, most))
+        raise settings.refused(
+            "fsm_args", Code.BAD_PARAMETER, "a number of its machine is not %d to %d" % (least, most)
+        )
 
 
 def _constellation(settings: Settings, outputs: int) -> _Constellation:
@@ -137,16 +162,22 @@ def _constellation(settings: Settings, outputs: int) -> _Constellation:
     settings.needs("metric_type", "digital.TRELLIS_EUCLIDEAN", "a decoder here has metrics of distances")
     dimensions = settings.whole("dim", 1, MOST_PORTS)
     if outputs > MOST_PORTS:
-        raise settings.refused("fsm_args", Code.BAD_PARAMETER, "it has %d outputs; metrics are made for %d" % (outputs, MOST_PORTS))
+        raise settings.refused(
+            "fsm_args", Code.BAD_PARAMETER, "it has %d outputs; metrics are made for %d" % (outputs, MOST_PORTS)
+        )
     numbers = settings.wholes("table", -(1 << 15), (1 << 15) - 1, outputs * dimensions)
     if len(numbers) != outputs * dimensions:
-        raise settings.refused("table", Code.BAD_PARAMETER, "table has %d numbers, and not %d for each output" % (len(numbers), dimensions))
+        raise settings.refused(
+            "table", Code.BAD_PARAMETER, "table has %d numbers, and not %d for each output" % (len(numbers), dimensions)
+        )
     points = [numbers[at:at + dimensions] for at in range(0, len(numbers), dimensions)]
     found = _Constellation(_LETTERS[item], outputs, dimensions, points)
     # (the least item times twice a number, and the square of that)
     greatest = max(sum(-2 * ItemType.SHORT.least * abs(it) + it * it for it in point) for point in points)
     if found.item is _INT:
-        settings.note("has metrics in ints, which wrap where a product of an item and twice a number of table does not fit")
+        settings.note(
+            "has metrics in ints, which wrap where a product of an item and twice a number of table does not fit"
+        )
     elif greatest > _INT.most:
         raise settings.refused("table", Code.BAD_PARAMETER, "the metrics of its points do not fit ints")
     return found

@@ -14,7 +14,10 @@ from .faults import AlreadyReported, Code, Refused, Report, shown
 _PLAIN = frozenset(("variable", "variable_config"))
 _MOVED = frozenset(
     "variable_qtgui_" + it
-    for it in ("check_box", "chooser", "dial_control", "entry", "msgcheckbox", "push_button", "range", "toggle_button_msg", "toggle_switch")
+    for it in (
+        "check_box", "chooser", "dial_control", "entry", "msgcheckbox", "push_button", "range", "toggle_button_msg",
+        "toggle_switch",
+    )
 )
 _TAG = "variable_tag_object"
 
@@ -91,7 +94,10 @@ class Variables:
 
     def _plain(self, block: DrawnBlock) -> Any:
         if block.id not in _PLAIN | _MOVED | {"parameter"} or "value" not in block.parameters:
-            raise Refused(block.line, Code.WRONG_TYPE, "%s is a %s, which is not evaluated here" % (shown(block.name), shown(block.id)))
+            raise Refused(
+                block.line, Code.WRONG_TYPE,
+                "%s is a %s, which is not evaluated here" % (shown(block.name), shown(block.id)),
+            )
         text = block.parameters["value"]
         value = self.evaluated(text, "the variable %s" % shown(block.name))
         if block.id not in _PLAIN:
@@ -105,7 +111,10 @@ class Variables:
             parts.append(self.evaluated(text, "the %s of the tag %s" % (key, shown(block.name))))
         offset, key, value = parts
         if type(offset) is not int or not isinstance(key, Symbol) or not isinstance(value, Long):
-            fault = "the tag %s has not a whole offset, a pmt.intern(..) for its key and a pmt.from_long(..) for its value" % shown(block.name)
+            fault = (
+                "the tag %s has not a whole offset, a pmt.intern(..) for its key and a pmt.from_long(..) for its value"
+                % shown(block.name)
+            )
             raise Refused(block.line, Code.TAG_PLACE, fault)
         return TagObject(offset, key.text, value.value)
 

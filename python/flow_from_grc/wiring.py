@@ -26,7 +26,9 @@ class Wiring:
     """The connections of a drawing. `others` are names of blocks that are no nodes, as those that were refused: what is
     connected to them is not looked at."""
 
-    def __init__(self, nodes: Sequence[Node], others: Set[str], connections: Sequence[DrawnConnection], report: Report) -> None:
+    def __init__(
+        self, nodes: Sequence[Node], others: Set[str], connections: Sequence[DrawnConnection], report: Report
+    ) -> None:
         self._nodes: Dict[str, Node] = {it.block.name: it for it in nodes}
         self._others = others
         self._report = report
@@ -60,7 +62,9 @@ class Wiring:
             except AlreadyReported:
                 continue
             if node.parts:
-                made += [Connection(*origin.node.writer(origin.port), *it) for it in node.readers(int(connection.sink_port))]
+                made += [
+                    Connection(*origin.node.writer(origin.port), *it) for it in node.readers(int(connection.sink_port))
+                ]
         for name, shift in shifts.items():
             if shift:
                 self._nodes[name].parts[-1].settings["shift"] = shift
@@ -76,20 +80,27 @@ class Wiring:
         if source is None or sink is None:
             return
         if (connection.sink, sink) in self._to:
-            raise Refused(connection.line, Code.INPUT_TAKEN, "input %d of %s has two connections" % (sink, shown(connection.sink)))
+            raise Refused(
+                connection.line, Code.INPUT_TAKEN, "input %d of %s has two connections" % (sink, shown(connection.sink))
+            )
         self._to[connection.sink, sink] = connection
         self._connections.append(connection)
 
     def _port(self, connection: DrawnConnection, name: str, text: str, side: str) -> Optional[int]:
         """The number of a port that a block has, or None of a block that is no node."""
         if not (text.isascii() and text.isdigit()):
-            raise Refused(connection.line, Code.PORT_RANGE, "%s %s of %s is one of messages, which are left out" % (side, shown(text), shown(name)))
+            raise Refused(
+                connection.line, Code.PORT_RANGE,
+                "%s %s of %s is one of messages, which are left out" % (side, shown(text), shown(name)),
+            )
         if name in self._others:
             return None
         node = self._nodes[name]
         count = len(node.outputs if side == "output" else node.inputs)
         if len(text) > 4 or int(text) >= count:
-            raise Refused(connection.line, Code.PORT_RANGE, "%s has no %s %s; it has %d" % (shown(name), side, shown(text), count))
+            raise Refused(
+                connection.line, Code.PORT_RANGE, "%s has no %s %s; it has %d" % (shown(name), side, shown(text), count)
+            )
         self._used.add((name, side, int(text)))
         return int(text)
 
@@ -99,7 +110,9 @@ class Wiring:
             for side, ports in (("input", node.inputs), ("output", node.outputs)):
                 for port in range(len(ports)):
                     if (name, side, port) not in self._used:
-                        text = "%s %d of %s is not connected%s" % (side, port, shown(name), "; a Null Sink may stand behind it" if side == "output" else "")
+                        text = "%s %d of %s is not connected%s" % (
+                            side, port, shown(name), "; a Null Sink may stand behind it" if side == "output" else "",
+                        )
                         self._report.refuse(Refused(node.block.line, Code.TOO_FEW_PORTS, text))
 
     def _origin(self, connection: DrawnConnection, passed: List[str]) -> _Origin:
@@ -119,7 +132,9 @@ class Wiring:
     def _test_type(self, connection: DrawnConnection, origin: _Origin, wanted: Port) -> None:
         if wanted in (None, origin.type) or (wanted is Floats.SUMS and origin.type is Floats.SHORTS):
             return
-        text = "%s gives items that are %s, and %s takes %s" % (shown(connection.source), origin.type, shown(connection.sink), wanted)
+        text = "%s gives items that are %s, and %s takes %s" % (
+            shown(connection.source), origin.type, shown(connection.sink), wanted,
+        )
         raise Refused(connection.line, Code.TYPE_MISMATCH, text)
 
     def _test_shift(self, connection: DrawnConnection, origin: _Origin, shifts: Dict[str, int], is_wire: bool) -> None:
@@ -129,6 +144,12 @@ class Wiring:
             return
         name = origin.node.block.name
         if not is_sum:
-            raise Refused(connection.line, Code.BAD_PARAMETER, "a Float To Short divides by its scale only behind a filter, and %s is none" % shown(name))
+            raise Refused(
+                connection.line, Code.BAD_PARAMETER,
+                "a Float To Short divides by its scale only behind a filter, and %s is none" % shown(name),
+            )
         if shifts.setdefault(name, origin.shift) != origin.shift:
-            raise Refused(connection.line, Code.BAD_PARAMETER, "the filter %s is followed by Float To Short blocks of two scales" % shown(name))
+            raise Refused(
+                connection.line, Code.BAD_PARAMETER,
+                "the filter %s is followed by Float To Short blocks of two scales" % shown(name),
+            )

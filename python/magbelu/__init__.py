@@ -48,9 +48,10 @@ from ._slices import SinkPart, SinkSlices, Slice, Slices, SourceSlices
 from ._stream import Levels, Piece, Stream
 
 __all__ = [
-    "EXAMPLE", "KINDS", "Array", "Block", "Builder", "Code", "Connection", "Error", "Graph", "Items", "Levels", "Need", "OutOfMemory", "Piece", "Place",
-    "Port", "Rates", "Refused", "Setting", "SinkPart", "SinkSlices", "Slice", "Slices", "SourceSlices", "Stream", "Tag", "check", "convolutional", "place", "run",
-    "run_items", "run_slices", "script", "version",
+    "EXAMPLE", "KINDS", "Array", "Block", "Builder", "Code", "Connection", "Error", "Graph", "Items", "Levels", "Need",
+    "OutOfMemory", "Piece", "Place", "Port", "Rates", "Refused", "Setting", "SinkPart", "SinkSlices", "Slice", "Slices",
+    "SourceSlices", "Stream", "Tag", "check", "convolutional", "place", "run", "run_items", "run_slices", "script",
+    "version",
 ]
 
 #: A graph file for examples: ten is added to each byte.

@@ -30,7 +30,10 @@ MASKED: set[type] = set() if numpy is None else {numpy.ma.MaskedArray, type(nump
 def unmasked(data: Any, what: str) -> Any:
     """What is no masked array of numpy: such an array lends the numbers behind its mask too."""
     if numpy is not None and isinstance(data, numpy.ma.MaskedArray):
-        raise TypeError("%s is no masked array, whose masked items have no value (its filled() or compressed() has one for each)" % what)
+        raise TypeError(
+            "%s is no masked array, whose masked items have no value (its filled() or compressed() has one for each)"
+            % what
+        )
     return data
 
 
@@ -138,7 +141,9 @@ def marks_of(tags: Iterable[tuple[Any, Any, Any]]) -> tuple[Any, list[Lent]]:
         return NO_MARKS, []
     kept, marks = [], []
     for offset, key, value in map(parts_of, tags):
-        offset, value, lent = index(offset, "the offset of a tag"), index(value, "the value of a tag"), Lent(bytes_of(key))
+        offset, value, lent = (
+            index(offset, "the offset of a tag"), index(value, "the value of a tag"), Lent(bytes_of(key)),
+        )
         if not LOW <= value <= HIGH:
             raise ValueError("the value of a tag has 64 bits with its sign: %d" % value)
         kept.append(lent)

@@ -69,7 +69,9 @@ def test(text: str, what: str, number: int = 0) -> None:
         texts("check", text, path=what)
     except Refused as refusal:
         if refusal.number not in WHOLE:
-            raise Refused(str(refusal.args[0]).replace("block 0", "block %d" % number, 1), place=refusal.place) from None
+            raise Refused(
+                str(refusal.args[0]).replace("block 0", "block %d" % number, 1), place=refusal.place
+            ) from None
 
 
 class Builder(KindBlocks):
@@ -128,14 +130,21 @@ class Builder(KindBlocks):
         ends = end_of(writer), end_of(reader)
         for name, _ in ends:
             if name not in self._blocks:
-                raise refused(UNKNOWN_BLOCK, name, reason="there is no such block; there are: " + ", ".join(self._blocks))
+                raise refused(
+                    UNKNOWN_BLOCK, name, reason="there is no such block; there are: " + ", ".join(self._blocks)
+                )
         (writer_name, out_port), (reader_name, in_port) = ends
-        row = table_of({"from": writer_name, **port_of("from_port", out_port), "to": reader_name, **port_of("to_port", in_port)})
+        row = table_of(
+            {"from": writer_name, **port_of("from_port", out_port), "to": reader_name, **port_of("to_port", in_port)}
+        )
         # (an input that is taken is refused, where the connection that takes it stands before)
         before = self._inputs.get((reader_name, in_port))
         names = dict.fromkeys([writer_name, reader_name] + ([before[0]] if before else []))
         rows = ([before[1]] if before else []) + [row]
-        test("block = [%s]\nconnect = [%s]" % (", ".join(self._blocks[it] for it in names), ", ".join(rows)), "the connection")
+        test(
+            "block = [%s]\nconnect = [%s]" % (", ".join(self._blocks[it] for it in names), ", ".join(rows)),
+            "the connection",
+        )
         self._inputs[reader_name, in_port] = writer_name, row
         self._connections.append(row)
 

@@ -74,7 +74,9 @@ def convolutional(*polynomials: SupportsIndex, order: Order = "msb_first") -> Co
     # The bits that a polynomial meets: the newest, and behind it the state.
     rows = [bit * states + state for state in range(states) for bit in range(2)]
     output = [int("".join(str(ones(row & it) % 2) for it in numbers), 2) for row in rows]
-    return Code(2, [row // 2 for row in rows], len(words), output, [[ones(word ^ it) for it in words] for word in words])
+    return Code(
+        2, [row // 2 for row in rows], len(words), output, [[ones(word ^ it) for it in words] for word in words]
+    )
 
 
 def ones(number: int) -> int:

@@ -65,7 +65,15 @@ class Error(Exception):
       | ^ a block needs the key `name`: a text
     """
 
-    def __init__(self, text: str, output: str = "", place: str = "", reason: str = "", floor: Optional[int] = None, hint: str = "") -> None:
+    def __init__(
+        self,
+        text: str,
+        output: str = "",
+        place: str = "",
+        reason: str = "",
+        floor: Optional[int] = None,
+        hint: str = "",
+    ) -> None:
         super().__init__(text)
         words = text.split(" ", 2) + ["", "", ""]
         self.number = int(words[0]) if words[0].isdigit() else 0

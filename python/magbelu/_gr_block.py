@@ -134,7 +134,12 @@ class Block(BasicBlock):  # type: ignore[misc]
         return True
 
     def forecast(self, noutput_items: int, ninputs: int) -> list[int]:
-        if self._lacking is None or self.outcome is not None or any(self._has_more) or any(map(self._has_news, self._lacking)):
+        if (
+            self._lacking is None
+            or self.outcome is not None
+            or any(self._has_more)
+            or any(map(self._has_news, self._lacking))
+        ):
             return [0] * ninputs
         return [int(port in self._lacking) for port in range(ninputs)]
 
@@ -188,7 +193,9 @@ class Block(BasicBlock):  # type: ignore[misc]
             name, first = self._inputs[port], self.nitems_read(port) + taken[port]
             items = inputs[port][taken[port] : taken[port] + self._most]
             if len(items):
-                tags = self.tags.fed(self.get_tags_in_range(port, first, first + len(items)), name, self._fed[port] - first)
+                tags = self.tags.fed(
+                    self.get_tags_in_range(port, first, first + len(items)), name, self._fed[port] - first
+                )
                 self._fed[port] = self.stream.feed(name, memoryview(items).cast("B"), tags)
                 taken[port] += len(items)
             elif self._is_at_end(port, taken[port]):
@@ -214,4 +221,10 @@ class Block(BasicBlock):  # type: ignore[misc]
         self.outcome = "done" if self._is_over else "stalled"
         if not self._is_over:
             waits = [(name, self.stream.need(name)) for name in self._names]
-            self.logger.warn("%s has stalled: %s" % (self.stream.path, ", ".join("%s waits for %s" % (name, it.what) for name, it in waits if it.what != "done")))
+            self.logger.warn(
+                "%s has stalled: %s"
+                % (
+                    self.stream.path,
+                    ", ".join("%s waits for %s" % (name, it.what) for name, it in waits if it.what != "done"),
+                )
+            )

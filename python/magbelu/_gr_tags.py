@@ -35,7 +35,9 @@ class Tags:
             if word is not None:
                 taken.append((tag.offset + moved, *word))
             elif self._refuses:
-                raise refused(58, "%s: the tag %s=%s at item %d" % (source, tag.key, tag.value, tag.offset), reason=REASON)
+                raise refused(
+                    58, "%s: the tag %s=%s at item %d" % (source, tag.key, tag.value, tag.offset), reason=REASON
+                )
             else:
                 self.left_out += 1
         return taken

@@ -29,7 +29,9 @@ class Graph(Held):
 
     _opens = "open"
 
-    def read(self, sink: Text, start: SupportsIndex = 0, count: Optional[SupportsIndex] = None) -> tuple[Array, list[Tag]]:
+    def read(
+        self, sink: Text, start: SupportsIndex = 0, count: Optional[SupportsIndex] = None
+    ) -> tuple[Array, list[Tag]]:
         """What a sink holds now: its items from `start` on, at most `count`, and the tags on them.
 
         >>> graph = Graph(magbelu.EXAMPLE)
@@ -40,21 +42,33 @@ class Graph(Held):
         ([11, 12], [Tag(offset=1, key='burst', value=7, source=0)])
         """
         name = lent_name(bytes_of(sink))
-        first, most = count_of(start, "the start of a read", MOST), MOST if count is None else count_of(count, "a count of items", MOST)
+        first, most = count_of(start, "the start of a read", MOST), MOST if count is None else count_of(
+            count, "a count of items", MOST
+        )
         room, tags_room = 65536, 4096
         with self._lock:
             while True:
                 data, lines = Room(room), Room(tags_room)
                 piece = self._calls.magbelu_bytes_read(
-                    ctypes.byref(self._plant), name.at, name.len, first, most, 0, data.at, data.size, lines.at, lines.size,
+                    ctypes.byref(self._plant), name.at, name.len, first, most, 0, data.at, data.size, lines.at,
+                    lines.size,
                 )
                 if piece.bytes_len <= room and piece.tags_len <= tags_room:
                     break
                 room, tags_room = max(room, piece.bytes_len), max(tags_room, piece.tags_len)
         tested(piece, sink)
-        return array_of(piece.item_size, data.part(0, piece.bytes_len)), tags_of(lines.part(0, piece.tags_len).decode().split())
+        return array_of(piece.item_size, data.part(0, piece.bytes_len)), tags_of(
+            lines.part(0, piece.tags_len).decode().split()
+        )
 
-    def plot(self, sink: Text, start: SupportsIndex = 0, count: Optional[SupportsIndex] = None, spectrum: bool = False, axes: Any = None) -> Any:
+    def plot(
+        self,
+        sink: Text,
+        start: SupportsIndex = 0,
+        count: Optional[SupportsIndex] = None,
+        spectrum: bool = False,
+        axes: Any = None,
+    ) -> Any:
         """Plots what `read` gives, by matplotlib: items over their numbers, with the tags as marks, or their spectrum.
         It draws on `axes`, or on new ones of pyplot, and gives them.
 
@@ -66,4 +80,6 @@ class Graph(Held):
         ('out', [4, 11, 12, 13])
         """
         items, tags = self.read(sink, start, count)
-        return plot(bytes_of(sink).decode(), index(start, "the start of a plot"), items, tags, flag(spectrum, "spectrum"), axes)
+        return plot(
+            bytes_of(sink).decode(), index(start, "the start of a plot"), items, tags, flag(spectrum, "spectrum"), axes
+        )

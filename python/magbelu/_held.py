@@ -10,7 +10,9 @@ import os
 import threading
 from typing import Any, Iterable, NamedTuple, Optional, SupportsIndex, TypeVar, Union
 
-from ._arguments import Text, bytes_of, count_of, flag, index, is_bytes, marks_of, numbers_of, numpy, place_of, taps_of, unmasked, within
+from ._arguments import (
+    Text, bytes_of, count_of, flag, index, is_bytes, marks_of, numbers_of, numpy, place_of, taps_of, unmasked, within,
+)
 from ._errors import refused
 from ._library import Lent, Plant, Room, calls, lent_name
 from ._listing import FORMATS, WAITS, Block, Connection, Need, Port, Rates, Setting
@@ -89,7 +91,9 @@ class Held:
         self._calls = calls()
         # How many bytes an item has of each source that was asked for it.
         self._source_sizes: dict[bytes, int] = {}
-        answer = getattr(self._calls, "magbelu_bytes_" + call)(ctypes.byref(self._plant), lent.at, lent.len, *words, error.at, error.size)
+        answer = getattr(self._calls, "magbelu_bytes_" + call)(
+            ctypes.byref(self._plant), lent.at, lent.len, *words, error.at, error.size
+        )
         if answer.error_len:
             raise refusal(answer, error, lent, path)
         # (of a graph that is not cut there is no line)
@@ -118,7 +122,13 @@ class Held:
         """Whether items stand in memory as those of the source do."""
         if isinstance(items, array.array):
             code = items.typecode
-        elif numpy is not None and isinstance(items, numpy.ndarray) and items.dtype.isnative and items.flags.c_contiguous and items.ndim == 1:
+        elif (
+            numpy is not None
+            and isinstance(items, numpy.ndarray)
+            and items.dtype.isnative
+            and items.flags.c_contiguous
+            and items.ndim == 1
+        ):
             code = items.dtype.char
         else:
             return False
@@ -129,7 +139,13 @@ class Held:
             self._source_sizes[name] = self._size(source)
         return CODES[self._source_sizes[name]] == code
 
-    def feed(self, source: Text, items: Items, tags: Iterable[tuple[SupportsIndex, Text, SupportsIndex]] = (), big_endian: bool = False) -> int:
+    def feed(
+        self,
+        source: Text,
+        items: Items,
+        tags: Iterable[tuple[SupportsIndex, Text, SupportsIndex]] = (),
+        big_endian: bool = False,
+    ) -> int:
         """Appends items to what a source is fed: integers, as a list, an array or whatever gives them one by one, or
         the bytes of items, as `bytes`, a `bytearray` or a `memoryview` of bytes. `tags` are (offset, key, value), at
         offsets on these items, counted from the first that it was ever fed. It gives how many items it was fed.
@@ -167,7 +183,9 @@ class Held:
         name = lent_name(bytes_of(source))
         return int(self._call("close", source, name.at, name.len).value)
 
-    def set(self, block: Text, value: Union[SupportsIndex, Iterable[SupportsIndex]], at: Optional[SupportsIndex] = None) -> int:
+    def set(
+        self, block: Text, value: Union[SupportsIndex, Iterable[SupportsIndex]], at: Optional[SupportsIndex] = None
+    ) -> int:
         """Sets a block's value, a number or taps, from its input item `at` on, or from the first that it has not taken.
         It gives that item.
 

@@ -15,18 +15,23 @@ _VERSION = 1
 
 
 class Answer(ctypes.Structure):
-    _fields_ = [("status", ctypes.c_uint32), ("number", ctypes.c_uint32), ("output_len", ctypes.c_size_t), ("error_len", ctypes.c_size_t)]
+    _fields_ = [
+        ("status", ctypes.c_uint32), ("number", ctypes.c_uint32), ("output_len", ctypes.c_size_t),
+        ("error_len", ctypes.c_size_t),
+    ]
 
 
 class PlaceReply(ctypes.Structure):
     _fields_ = [
-        ("status", ctypes.c_uint32), ("number", ctypes.c_uint32),
-        ("line", ctypes.c_size_t), ("column", ctypes.c_size_t), ("length", ctypes.c_size_t), ("why_len", ctypes.c_size_t),
+        ("status", ctypes.c_uint32), ("number", ctypes.c_uint32), ("line", ctypes.c_size_t),
+        ("column", ctypes.c_size_t), ("length", ctypes.c_size_t), ("why_len", ctypes.c_size_t),
     ]
 
 
 class Input(ctypes.Structure):
-    _fields_ = [("name", ctypes.c_void_p), ("name_len", ctypes.c_size_t), ("bytes", ctypes.c_void_p), ("len", ctypes.c_size_t)]
+    _fields_ = [
+        ("name", ctypes.c_void_p), ("name_len", ctypes.c_size_t), ("bytes", ctypes.c_void_p), ("len", ctypes.c_size_t),
+    ]
 
 
 class Output(ctypes.Structure):
@@ -38,7 +43,9 @@ class Plant(ctypes.Structure):
 
 
 class Reply(ctypes.Structure):
-    _fields_ = [("status", ctypes.c_uint32), ("number", ctypes.c_uint32), ("what", ctypes.c_uint32), ("value", ctypes.c_uint64)]
+    _fields_ = [
+        ("status", ctypes.c_uint32), ("number", ctypes.c_uint32), ("what", ctypes.c_uint32), ("value", ctypes.c_uint64),
+    ]
 
 
 class Piece(ctypes.Structure):
@@ -49,18 +56,24 @@ class Piece(ctypes.Structure):
 
 
 class Mark(ctypes.Structure):
-    _fields_ = [("offset", ctypes.c_uint64), ("value", ctypes.c_int64), ("key", ctypes.c_void_p), ("key_len", ctypes.c_size_t)]
+    _fields_ = [
+        ("offset", ctypes.c_uint64), ("value", ctypes.c_int64), ("key", ctypes.c_void_p), ("key_len", ctypes.c_size_t),
+    ]
 
 
 class Listed(ctypes.Structure):
     _fields_ = [
-        ("status", ctypes.c_uint32), ("number", ctypes.c_uint32), ("role", ctypes.c_uint32), ("input_type", ctypes.c_uint32), ("output_type", ctypes.c_uint32),
-        ("input_count", ctypes.c_size_t), ("output_count", ctypes.c_size_t), ("name_len", ctypes.c_size_t), ("kind_len", ctypes.c_size_t),
+        ("status", ctypes.c_uint32), ("number", ctypes.c_uint32), ("role", ctypes.c_uint32),
+        ("input_type", ctypes.c_uint32), ("output_type", ctypes.c_uint32), ("input_count", ctypes.c_size_t),
+        ("output_count", ctypes.c_size_t), ("name_len", ctypes.c_size_t), ("kind_len", ctypes.c_size_t),
     ]
 
 
 class Link(ctypes.Structure):
-    _fields_ = [("writer", ctypes.c_uint32), ("reader", ctypes.c_uint32), ("out_port", ctypes.c_size_t), ("in_port", ctypes.c_size_t)]
+    _fields_ = [
+        ("writer", ctypes.c_uint32), ("reader", ctypes.c_uint32), ("out_port", ctypes.c_size_t),
+        ("in_port", ctypes.c_size_t),
+    ]
 
 
 class SettingReply(ctypes.Structure):
@@ -78,13 +91,16 @@ class RatesReply(ctypes.Structure):
 
 
 class LevelsReply(ctypes.Structure):
-    _fields_ = [("status", ctypes.c_uint32), ("number", ctypes.c_uint32), ("taken", ctypes.c_uint64), ("given", ctypes.c_uint64), ("waiting", ctypes.c_uint64)]
+    _fields_ = [
+        ("status", ctypes.c_uint32), ("number", ctypes.c_uint32), ("taken", ctypes.c_uint64),
+        ("given", ctypes.c_uint64), ("waiting", ctypes.c_uint64),
+    ]
 
 
 class Slicing(ctypes.Structure):
     _fields_ = [
-        ("status", ctypes.c_uint32), ("number", ctypes.c_uint32), ("block", ctypes.c_uint32), ("iterations", ctypes.c_uint64),
-        ("source_count", ctypes.c_size_t), ("sink_count", ctypes.c_size_t),
+        ("status", ctypes.c_uint32), ("number", ctypes.c_uint32), ("block", ctypes.c_uint32),
+        ("iterations", ctypes.c_uint64), ("source_count", ctypes.c_size_t), ("sink_count", ctypes.c_size_t),
     ]
 
 
@@ -158,17 +174,16 @@ def _with_types(library: ctypes.CDLL) -> ctypes.CDLL:
     }.items():
         call = getattr(library, "magbelu_bytes_" + name)
         call.restype, call.argtypes = Answer, types
-    library.magbelu_bytes_place.restype, library.magbelu_bytes_place.argtypes = PlaceReply, 2 * pair
-    plant, u64 = pair[:1], [ctypes.c_uint64]
+    plant, u32, u64 = pair[:1], [ctypes.c_uint32], [ctypes.c_uint64]
     for name, types in {
         "free": plant,
         "item_size": plant + pair,
-        "feed": plant + pair + [ctypes.c_uint32] + 2 * pair,
+        "feed": plant + pair + u32 + 2 * pair,
         "feed_numbers": plant + 3 * pair,
         "close": plant + pair,
         "set": plant + pair + u64 + [ctypes.c_int64],
         "set_taps": plant + pair + u64 + pair,
-        "step": plant + pair + [ctypes.c_uint32],
+        "step": plant + pair + u32,
         "settle": plant,
         "need": plant + pair,
         "block_count": plant,
@@ -178,20 +193,23 @@ def _with_types(library: ctypes.CDLL) -> ctypes.CDLL:
     }.items():
         call = getattr(library, "magbelu_bytes_" + name)
         call.restype, call.argtypes = Reply, types
-    for name in ("open", "open_stream"):
+    for name, answer, types in (
+        ("place", PlaceReply, 2 * pair),
+        ("open", Answer, plant + 2 * pair),
+        ("open_stream", Answer, plant + 2 * pair),
+        ("open_stream_at", Answer, plant + pair + u64 + pair),
+        ("drain", Piece, plant + pair + u64 + u32 + 2 * pair),
+        ("read", Piece, plant + pair + 2 * u64 + u32 + 2 * pair),
+        ("block", Listed, plant + u32 + 2 * pair),
+        ("setting", SettingReply, plant + u32 + pair),
+        ("rates", RatesReply, plant + u32 + pair),
+        ("levels", LevelsReply, plant + pair),
+        ("draw", Answer, plant + u32 + pair),
+        ("slices", Slicing, plant + u32 + 2 * pair),
+        ("slice", Slicing, plant + u32 + u64 + pair),
+    ):
         call = getattr(library, "magbelu_bytes_" + name)
-        call.restype, call.argtypes = Answer, plant + 2 * pair
-    library.magbelu_bytes_drain.restype, library.magbelu_bytes_drain.argtypes = Piece, plant + pair + u64 + [ctypes.c_uint32] + 2 * pair
-    library.magbelu_bytes_read.restype, library.magbelu_bytes_read.argtypes = Piece, plant + pair + 2 * u64 + [ctypes.c_uint32] + 2 * pair
-    library.magbelu_bytes_block.restype, library.magbelu_bytes_block.argtypes = Listed, plant + [ctypes.c_uint32] + 2 * pair
-    library.magbelu_bytes_setting.restype, library.magbelu_bytes_setting.argtypes = SettingReply, plant + [ctypes.c_uint32] + pair
-    library.magbelu_bytes_rates.restype, library.magbelu_bytes_rates.argtypes = RatesReply, plant + [ctypes.c_uint32] + pair
-    library.magbelu_bytes_levels.restype, library.magbelu_bytes_levels.argtypes = LevelsReply, plant + pair
-    library.magbelu_bytes_draw.restype, library.magbelu_bytes_draw.argtypes = Answer, plant + [ctypes.c_uint32] + pair
-    library.magbelu_bytes_open_stream_at.restype, library.magbelu_bytes_open_stream_at.argtypes = Answer, plant + pair + u64 + pair
-    for name, types in {"slices": 2 * pair, "slice": u64 + pair}.items():
-        call = getattr(library, "magbelu_bytes_" + name)
-        call.restype, call.argtypes = Slicing, plant + [ctypes.c_uint32] + types
+        call.restype, call.argtypes = answer, types
     return library
 
 

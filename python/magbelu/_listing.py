@@ -149,7 +149,10 @@ def connections_of(calls: Any, plant: Any, blocks: list[Block]) -> list[Connecti
         rows = (Link * max(room, 1))()
         count = told(calls.magbelu_bytes_connections(plant, ctypes.addressof(rows), room)).value
         if count <= room:
-            return [Connection(blocks[it.writer].name, it.out_port, blocks[it.reader].name, it.in_port) for it in rows[:count]]
+            return [
+                Connection(blocks[it.writer].name, it.out_port, blocks[it.reader].name, it.in_port)
+                for it in rows[:count]
+            ]
         room = count
 
 

@@ -38,8 +38,9 @@ def plot_items(axes: Any, start: int, items: Any, tags: Sequence[Any]) -> None:
         axes.axvline(tag.offset, color="tab:red", linewidth=1, alpha=0.6)
     for offset, shift, text in labels_of(axes, tags):
         axes.annotate(
-            text, (offset, 1), xycoords=("data", "axes fraction"), xytext=(shift, -3), textcoords="offset points", rotation=90, va="top",
-            fontsize=SIZE, bbox={"facecolor": "white", "edgecolor": "none", "alpha": 0.8, "pad": 1}, annotation_clip=False,
+            text, (offset, 1), xycoords=("data", "axes fraction"), xytext=(shift, -3), textcoords="offset points",
+            rotation=90, va="top", fontsize=SIZE,
+            bbox={"facecolor": "white", "edgecolor": "none", "alpha": 0.8, "pad": 1}, annotation_clip=False,
         )
     axes.set_xlabel("item")
     axes.set_ylabel("value")
@@ -55,7 +56,9 @@ def plot_spectrum(axes: Any, items: Any) -> None:
     window = numpy.hanning(len(items))
     amplitudes = 2 * numpy.abs(numpy.fft.rfft(numpy.asarray(items, dtype=float) * window)) / max(window.sum(), 1)
     # (an amplitude of 0 has no decibels: no item is as quiet as this one)
-    axes.plot(numpy.arange(len(amplitudes)) / len(items), 20 * numpy.log10(numpy.maximum(amplitudes, 1e-3)), linewidth=1)
+    axes.plot(
+        numpy.arange(len(amplitudes)) / len(items), 20 * numpy.log10(numpy.maximum(amplitudes, 1e-3)), linewidth=1
+    )
     axes.set_xlabel("cycles per item")
     axes.set_ylabel("amplitude in dB")
 

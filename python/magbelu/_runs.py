@@ -39,7 +39,9 @@ def where(file: Lent, path: str) -> str:
     name, error, room = Lent(path.encode(errors="replace")), Room(0), 4096
     while True:
         output = Room(room)
-        answer = calls().magbelu_bytes_explain(name.at, name.len, file.at, file.len, output.at, output.size, error.at, error.size)
+        answer = calls().magbelu_bytes_explain(
+            name.at, name.len, file.at, file.len, output.at, output.size, error.at, error.size
+        )
         if answer.output_len <= room:
             return output.part(0, answer.output_len).decode(errors="replace")
         room = answer.output_len
@@ -72,14 +74,20 @@ def read_file(path: Union[str, os.PathLike[str]]) -> bytes:
     except OSError:
         if "\n" not in str(path):
             raise
-        raise ValueError("this is the text of a graph file and no path: Graph(..) and Stream(..) take it, and Flowgraph(text=..) of GNU Radio") from None
+        raise ValueError(
+            "this is the text of a graph file and no path: Graph(..) and Stream(..) take it, and Flowgraph(text=..) of "
+            "GNU Radio"
+        ) from None
 
 
 def hint_of(text: bytes) -> str:
     """What is said where a path is given in place of a text."""
     if b"\n" in text or not (text.endswith(b".toml") or os.path.isfile(text)):
         return ""
-    return "(this is taken for the text of a graph file, which pathlib.Path(..).read_text() gives; Graph.from_file and Stream.from_file open the file of a path)"
+    return (
+        "(this is taken for the text of a graph file, which pathlib.Path(..).read_text() gives; Graph.from_file and"
+        " Stream.from_file open the file of a path)"
+    )
 
 
 def refusal(answer: Any, error: Room, file: Lent, path: str = NO_PATH, output: str = "") -> Error:
@@ -187,8 +195,8 @@ def run_items(
     while True:
         got = Room(size)
         answer = calls().magbelu_bytes_run_items(
-            text.at, text.len, big_endian, ctypes.addressof(fed), len(given), ctypes.addressof(asked), len(wanted), ctypes.addressof(lens), len(wanted),
-            got.at, got.size, error.at, error.size,
+            text.at, text.len, big_endian, ctypes.addressof(fed), len(given), ctypes.addressof(asked), len(wanted),
+            ctypes.addressof(lens), len(wanted), got.at, got.size, error.at, error.size,
         )
         if answer.output_len <= size:
             break

@@ -173,10 +173,15 @@ def is_path(given: Any) -> bool:
 def view_of(source: str, item_size: int, data: Any) -> memoryview:
     """The bytes of an array that a source gets."""
     unmasked(data, "the input %r" % (source,))
-    is_array = is_bytes(data) or isinstance(data, array.array) or (numpy is not None and isinstance(data, numpy.ndarray))
+    is_array = (
+        is_bytes(data) or isinstance(data, array.array) or (numpy is not None and isinstance(data, numpy.ndarray))
+    )
     view = memoryview(data) if is_array else None
     if view is None or view.ndim != 1 or not (is_bytes(data) or view.format == CODES[item_size]):
-        raise TypeError("the input %r is a path, bytes, or an array of type %r in one row, and no %r" % (source, CODES[item_size], type(data).__name__))
+        raise TypeError(
+            "the input %r is a path, bytes, or an array of type %r in one row, and no %r"
+            % (source, CODES[item_size], type(data).__name__)
+        )
     return view.cast("B") if view.c_contiguous and view.nbytes else memoryview(view.tobytes())
 
 
@@ -221,7 +226,10 @@ def test_ends(stream: Stream, plan: Slices, input: Mapping[str, Input], output: 
 
 
 def run_slices(
-    file: Text, input: Mapping[str, Input], output: Optional[Mapping[str, Optional[Path]]] = None, jobs: Optional[SupportsIndex] = None,
+    file: Text,
+    input: Mapping[str, Input],
+    output: Optional[Mapping[str, Optional[Path]]] = None,
+    jobs: Optional[SupportsIndex] = None,
 ) -> dict[str, Array]:
     """Runs a graph in slices of time, on `jobs` threads, or as many as there are processors: the bytes are those of one
     run. `input` has a path, bytes or an array for each source (one that is not there gets nothing), `output` a path or

@@ -73,7 +73,8 @@ def plan_of(held: Any, tags: bool) -> Slices:
     sources, sinks = (CutSource * len(names))(), (CutSink * len(names))()
     with held._lock:
         slicing = held._calls.magbelu_bytes_slices(
-            ctypes.byref(held._plant), flag(tags, "tags"), ctypes.addressof(sources), len(names), ctypes.addressof(sinks), len(names),
+            ctypes.byref(held._plant), flag(tags, "tags"), ctypes.addressof(sources), len(names),
+            ctypes.addressof(sinks), len(names),
         )
     tested(slicing, names)
     return Slices(
@@ -90,6 +91,10 @@ def slice_of(held: Any, begins: SupportsIndex, tags: bool) -> Slice:
     parts = (CutPart * len(names))()
     begins = count_of(begins, "an iteration", MOST)
     with held._lock:
-        slicing = held._calls.magbelu_bytes_slice(ctypes.byref(held._plant), flag(tags, "tags"), begins, ctypes.addressof(parts), len(names))
+        slicing = held._calls.magbelu_bytes_slice(
+            ctypes.byref(held._plant), flag(tags, "tags"), begins, ctypes.addressof(parts), len(names)
+        )
     tested(slicing, names)
-    return Slice(slicing.iterations, [SinkPart(names[it.block], it.drop, it.stands) for it in parts[: slicing.sink_count]])
+    return Slice(
+        slicing.iterations, [SinkPart(names[it.block], it.drop, it.stands) for it in parts[: slicing.sink_count]]
+    )

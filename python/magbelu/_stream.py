@@ -21,14 +21,21 @@ END = object()
 
 def pieces_of(source: str, pieces: Any) -> Iterator[Items]:
     """The pieces that a source gets one by one. An array of items is a single piece, and has none in it."""
-    is_array = isinstance(pieces, array.array) or (numpy is not None and isinstance(pieces, numpy.ndarray) and pieces.ndim < 2)
+    is_array = isinstance(pieces, array.array) or (
+        numpy is not None and isinstance(pieces, numpy.ndarray) and pieces.ndim < 2
+    )
     is_row = isinstance(pieces, (list, tuple, range)) and len(pieces) and hasattr(pieces[0], "__index__")
     if is_array or is_row or isinstance(pieces, (str, bytes, bytearray, memoryview)):
-        raise TypeError("the source %r gets an iterable of pieces, and not one piece: through(%s=[items])" % (source, source))
+        raise TypeError(
+            "the source %r gets an iterable of pieces, and not one piece: through(%s=[items])" % (source, source)
+        )
     try:
         return iter(pieces)
     except TypeError:
-        raise TypeError("the source %r gets an iterable of pieces, and no %r: through(%s=[items])" % (source, type(pieces).__name__, source)) from None
+        raise TypeError(
+            "the source %r gets an iterable of pieces, and no %r: through(%s=[items])"
+            % (source, type(pieces).__name__, source)
+        ) from None
 
 
 async def next_of(pieces: Union[Iterator[Items], AsyncIterator[Items]]) -> Any:
@@ -178,7 +185,9 @@ class Stream(Held):
             if piece.bytes_len > size:
                 return piece, []
             if piece.tags_len <= lines.size:
-                self._drained_of[bytes_of(sink)] = self._drained_of.get(bytes_of(sink), 0) + piece.bytes_len // piece.item_size
+                self._drained_of[bytes_of(sink)] = (
+                    self._drained_of.get(bytes_of(sink), 0) + piece.bytes_len // piece.item_size
+                )
                 return piece, tags_of(lines.part(0, piece.tags_len).decode().split()) if piece.tags_len else []
             self._lines = Room(piece.tags_len)
 
@@ -239,9 +248,16 @@ class Stream(Held):
         """
         for source in pieces:
             self._size(source)
-        return self._through_async({source: it.__aiter__() if isinstance(it, AsyncIterable) else pieces_of(source, it) for source, it in pieces.items()})
+        return self._through_async(
+            {
+                source: it.__aiter__() if isinstance(it, AsyncIterable) else pieces_of(source, it)
+                for source, it in pieces.items()
+            }
+        )
 
-    async def _through_async(self, pieces: dict[str, Union[Iterator[Items], AsyncIterator[Items]]]) -> AsyncIterator[Piece]:
+    async def _through_async(
+        self, pieces: dict[str, Union[Iterator[Items], AsyncIterator[Items]]]
+    ) -> AsyncIterator[Piece]:
         sinks = [it.name for it in self.sinks]
         coming: dict[str, asyncio.Future[Any]] = {}
         is_over = False

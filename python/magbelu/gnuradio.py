@@ -59,11 +59,19 @@ class Flowgraph(HierBlock):  # type: ignore[misc]
         stream = Stream(file, NO_PATH if path is None else str(path))
         self.ports = ports_of(stream)
         if not self.ports.outputs:
-            raise ValueError("a graph without a vector_sink gives a block without an output, which GNU Radio ends with the first of its inputs")
+            raise ValueError(
+                "a graph without a vector_sink gives a block without an output, which GNU Radio ends with the first of "
+                "its inputs"
+            )
         # (a signature of no ports has a size too)
-        super().__init__("magbelu_flowgraph", *(gr.io_signature.makev(len(side), len(side), [it.size for it in side] or [1]) for side in self.ports))
+        super().__init__(
+            "magbelu_flowgraph",
+            *(gr.io_signature.makev(len(side), len(side), [it.size for it in side] or [1]) for side in self.ports),
+        )
         ends = [blocks.copy(it.size) for it in self.ports.inputs]
-        self._block = Block(stream, [it.name for it in stream.blocks], self.ports, ends, Tags(pmt, other_tags == "refuse"))
+        self._block = Block(
+            stream, [it.name for it in stream.blocks], self.ports, ends, Tags(pmt, other_tags == "refuse")
+        )
         for port, end in enumerate(ends):
             self.connect((self, port), end, (self._block, port))
             self._block.names_end(port)

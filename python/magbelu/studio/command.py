@@ -37,7 +37,9 @@ def watch(word: str) -> tuple[str, str]:
     name, view = pair(word)
     block, _, port = name.partition(":")
     if view not in VIEWS or not block or not re.fullmatch(r"\d{0,5}", port, re.ASCII):
-        raise argparse.ArgumentTypeError("%r is not BLOCK=VIEW or BLOCK:OUTPUT=VIEW with a view of %s" % (word, ", ".join(VIEWS)))
+        raise argparse.ArgumentTypeError(
+            "%r is not BLOCK=VIEW or BLOCK:OUTPUT=VIEW with a view of %s" % (word, ", ".join(VIEWS))
+        )
     return name, view
 
 
@@ -48,13 +50,26 @@ def count(word: str) -> int:
 
 
 def parser() -> argparse.ArgumentParser:
-    it = argparse.ArgumentParser(prog=NAME, description="Runs a graph file of flow, and shows it in the browser while it runs.")
-    it.add_argument("-i", dest="inputs", metavar="SOURCE=PATH", type=pair, action="append", default=[], help="feeds a source the raw items of a file, a pipe, or standard input (-)")
-    it.add_argument("-o", dest="outputs", metavar="SINK=PATH", type=pair, action="append", default=[], help="writes what a sink takes as raw items")
-    it.add_argument("-w", "--watch", metavar="BLOCK=VIEW", type=watch, action="append", default=[], help="shows what a block gives, of its output N with BLOCK:N, as %s" % ", ".join(VIEWS))
+    it = argparse.ArgumentParser(
+        prog=NAME, description="Runs a graph file of flow, and shows it in the browser while it runs."
+    )
+    it.add_argument(
+        "-i", dest="inputs", metavar="SOURCE=PATH", type=pair, action="append", default=[],
+        help="feeds a source the raw items of a file, a pipe, or standard input (-)",
+    )
+    it.add_argument(
+        "-o", dest="outputs", metavar="SINK=PATH", type=pair, action="append", default=[],
+        help="writes what a sink takes as raw items",
+    )
+    it.add_argument(
+        "-w", "--watch", metavar="BLOCK=VIEW", type=watch, action="append", default=[],
+        help="shows what a block gives, of its output N with BLOCK:N, as %s" % ", ".join(VIEWS),
+    )
     it.add_argument("--rate", metavar="ITEMS", type=count, help="takes so many items of each input a second at most")
     it.add_argument("--paused", action="store_true", help="waits with the run until the page says so")
-    it.add_argument("--port", metavar="N", type=int, default=0, help="the port of 127.0.0.1; a free one where it is left out")
+    it.add_argument(
+        "--port", metavar="N", type=int, default=0, help="the port of 127.0.0.1; a free one where it is left out"
+    )
     it.add_argument("--no-open", action="store_true", help="prints the address alone, and opens no browser")
     it.add_argument("graph", metavar="GRAPH", help="the graph file")
     return it
@@ -101,7 +116,10 @@ def main(words: Optional[Sequence[str]] = None) -> int:
     if not options.no_open:
         open_browser(address)
     try:
-        web.run_app(Server(studio, own.getsockname()[1], token).app(), sock=own, print=lambda *_: None, access_log=None, shutdown_timeout=1)
+        web.run_app(
+            Server(studio, own.getsockname()[1], token).app(), sock=own, print=lambda *_: None, access_log=None,
+            shutdown_timeout=1,
+        )
     finally:
         studio.end()
     return FAILED if studio.run.state == "failed" else DONE

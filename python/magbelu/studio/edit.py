@@ -34,7 +34,11 @@ def with_table(text: str, array: str, table: dict[str, Value]) -> str:
     entries = ["%s = %s" % (key, shown(value)) for key, value in table.items()]
     place = end_of_array(text, array)
     if place is None:
-        return "%s\n\n[[%s]]\n%s\n" % (text.rstrip("\n"), array, "\n".join(entries)) if text.strip() else "[[%s]]\n%s\n" % (array, "\n".join(entries))
+        return (
+            "%s\n\n[[%s]]\n%s\n" % (text.rstrip("\n"), array, "\n".join(entries))
+            if text.strip()
+            else "[[%s]]\n%s\n" % (array, "\n".join(entries))
+        )
     end, needs_comma, last = place
     line = "    { %s },\n" % ", ".join(entries)
     return text[:last] + ("," if needs_comma else "") + text[last:end].rstrip(" \n") + "\n" + line + text[end:]
@@ -80,7 +84,9 @@ def watched(graph: GraphFile, name: str, port: int = 0) -> tuple[str, str]:
     sinks = graph.named("vector_sink")
     if graph.block(name) is None:
         raise ValueError("no block has the name %r" % name)
-    there = [it["to"] for it in graph.connects if (it["from"], it.get("from_port", 0)) == (name, port) and it["to"] in sinks]
+    there = [
+        it["to"] for it in graph.connects if (it["from"], it.get("from_port", 0)) == (name, port) and it["to"] in sinks
+    ]
     if name in sinks or there:
         return graph.text, name if name in sinks else there[0]
     sink = free_name(name + "_", [it["name"] for it in graph.blocks])

@@ -69,7 +69,10 @@ class GraphFile:
 
     def shown(self) -> dict[str, Any]:
         """What the page draws."""
-        return {"blocks": [self._block(it) for it in self.blocks], "connects": [self._connect(it) for it in self.connects], "text": self.text}
+        return {
+            "blocks": [self._block(it) for it in self.blocks], "connects": [self._connect(it) for it in self.connects],
+            "text": self.text,
+        }
 
     def _block(self, block: dict[str, Any]) -> dict[str, Any]:
         return {
@@ -87,7 +90,12 @@ class GraphFile:
         if it is None:
             return None
         taps = len(it.value) if isinstance(it.value, list) else None
-        return {"key": KIND_ROWS[block["kind"]].setting, "low": it.least, "high": it.most, "taps": taps, "value": it.value}
+        return {
+            "key": KIND_ROWS[block["kind"]].setting, "low": it.least, "high": it.most, "taps": taps, "value": it.value,
+        }
 
     def _connect(self, it: dict[str, Any]) -> dict[str, Any]:
-        return {"from": it["from"], "from_port": it.get("from_port", 0), "to": it["to"], "to_port": it.get("to_port", 0), "type": self.type_of(it["from"])}
+        return {
+            "from": it["from"], "from_port": it.get("from_port", 0), "to": it["to"], "to_port": it.get("to_port", 0),
+            "type": self.type_of(it["from"]),
+        }

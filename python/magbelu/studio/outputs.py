@@ -14,7 +14,9 @@ class Output:
         self.sink = sink
         #: A run that is begun anew writes beside the files of those before.
         self.path = path if number == 1 or path == "-" or not os.path.isfile(path) else "%s.%d" % (path, number)
-        self._file = sys.stdout.fileno() if path == "-" else os.open(self.path, os.O_WRONLY | os.O_CREAT | os.O_TRUNC, 0o666)
+        self._file = (
+            sys.stdout.fileno() if path == "-" else os.open(self.path, os.O_WRONLY | os.O_CREAT | os.O_TRUNC, 0o666)
+        )
 
     def write(self, items: memoryview) -> None:
         data = items.cast("B")

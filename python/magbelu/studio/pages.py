@@ -112,7 +112,10 @@ class Page:
 
     def _of_run(self, run: Run) -> dict[str, Any]:
         """What of a run stays as it is."""
-        return {"path": str(self._studio.path), "saved": self._studio.saved, "views": self._studio.views, "graph": run.graph.shown()}
+        return {
+            "path": str(self._studio.path), "saved": self._studio.saved, "views": self._studio.views,
+            "graph": run.graph.shown(),
+        }
 
     async def _send_frames(self) -> None:
         """Sends a frame of each view that has something new, and whose last frame the page has taken."""
@@ -139,4 +142,7 @@ class Page:
         traces = [run.traces.get(it) for it in (view.sink, view.other) if it is not None] if view is not None else []
         if view is None or None in traces:
             return None
-        return (run.number, view.start, [(it.end, it.start if view.start is not None else 0) for it in traces if it is not None])
+        return (
+            run.number, view.start,
+            [(it.end, it.start if view.start is not None else 0) for it in traces if it is not None],
+        )

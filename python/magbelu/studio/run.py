@@ -209,7 +209,9 @@ class Run(threading.Thread):
 
     def _feed(self, it: Input) -> bool:
         """Feeds a source what has come, as the pace and the goal allow; whether anything was done."""
-        return self._give(it, min(self._piece, self._goals.get(it.source, it.count + MOST) - it.count, self._allowed(it)))
+        return self._give(
+            it, min(self._piece, self._goals.get(it.source, it.count + MOST) - it.count, self._allowed(it))
+        )
 
     def _give(self, it: Input, most: int) -> bool:
         """Feeds a source so many items at most, or closes it at the end; whether anything was done."""

@@ -38,7 +38,9 @@ def lines_of(run: Run) -> Iterable[str]:
         if it.is_file and it.path != "-":
             yield from feed_lines(name, it.path, it.item_size, it.count)
         else:
-            yield "# %s was fed %d items through a pipe: a line `feed %s ITEM..` for them stands here\n" % (name, it.count, name)
+            yield "# %s was fed %d items through a pipe: a line `feed %s ITEM..` for them stands here\n" % (
+                name, it.count, name,
+            )
     is_whole = run.state == "done"
     for name in run.graph.named("vector_source"):
         if is_whole or name not in run.inputs:

@@ -45,7 +45,10 @@ class Server:
         self._origins = {"http://" + it for it in self._hosts}
         self._sockets: weakref.WeakSet[web.WebSocketResponse] = weakref.WeakSet()
         self._files = {it.name: it for it in sorted(FOLDER.iterdir()) if it.suffix in TYPES}
-        policy = "default-src 'none'; script-src 'self'; style-src 'self'; img-src 'self' data:; connect-src 'self' %s; base-uri 'none'; form-action 'none'; frame-ancestors 'none'"
+        policy = (
+            "default-src 'none'; script-src 'self'; style-src 'self'; img-src 'self' data:; connect-src 'self' %s;"
+            " base-uri 'none'; form-action 'none'; frame-ancestors 'none'"
+        )
         self._headers = {
             "Content-Security-Policy": policy % " ".join("ws://" + it for it in sorted(self._hosts)),
             "Referrer-Policy": "no-referrer",
@@ -82,16 +85,26 @@ class Server:
         origin = request.headers.get("Origin")
         if request.host not in self._hosts:
             return "this server has another name"
-        if origin is not None and origin not in self._origins or request.headers.get("Sec-Fetch-Site") in ("cross-site", "same-site"):
+        if (
+            origin is not None
+            and origin not in self._origins
+            or request.headers.get("Sec-Fetch-Site") in ("cross-site", "same-site")
+        ):
             return "the request is from another origin"
         token = request.path.split("/")[1].encode()
-        return "" if hmac.compare_digest(token, self._token.encode()) else "the address has another token: the command prints the right one"
+        return (
+            ""
+            if hmac.compare_digest(token, self._token.encode())
+            else "the address has another token: the command prints the right one"
+        )
 
     async def _file(self, request: web.Request) -> web.StreamResponse:
         file = self._files.get(request.match_info.get("file", "index.html"))
         if file is None:
             return web.Response(status=404, text="there is no such file\n", headers=self._headers)
-        return web.Response(body=file.read_bytes(), content_type=TYPES[file.suffix], charset="utf-8", headers=self._headers)
+        return web.Response(
+            body=file.read_bytes(), content_type=TYPES[file.suffix], charset="utf-8", headers=self._headers
+        )
 
     async def _link(self, request: web.Request) -> web.StreamResponse:
         # (a browser names the origin of each web socket)
@@ -108,11 +121,16 @@ class Server:
 
     async def _script(self, request: web.Request) -> web.StreamResponse:
         """The lines that make the run again, as a file to save."""
-        headers = {**self._headers, "Content-Disposition": 'attachment; filename="script"', "Content-Type": "text/plain; charset=utf-8"}
+        headers = {
+            **self._headers, "Content-Disposition": 'attachment; filename="script"',
+            "Content-Type": "text/plain; charset=utf-8",
+        }
         response = web.StreamResponse(headers=headers)
         await response.prepare(request)
         if self._studio.run.graph.text != self._studio.saved:
-            await response.write(b"# The run is of another text than the file: save that first, for this script to make the run again.\n")
+            await response.write(
+                b"# The run is of another text than the file: save that first, for this script to make the run again.\n"
+            )
         for line in lines_of(self._studio.run):
             await response.write(line.encode())
         await response.write_eof()

@@ -61,7 +61,13 @@ def looked(text: str) -> dict[str, Any]:
 class Studio:
     """A graph file and its run."""
 
-    def __init__(self, path: Union[str, os.PathLike[str]], ways: Ways, rate: Optional[int] = None, watched: Sequence[tuple[str, str]] = ()) -> None:
+    def __init__(
+        self,
+        path: Union[str, os.PathLike[str]],
+        ways: Ways,
+        rate: Optional[int] = None,
+        watched: Sequence[tuple[str, str]] = (),
+    ) -> None:
         self.path, self.ways = pathlib.Path(path), ways
         self._saved = read_file(path)
         # Where inputs are kept that were dropped on a page.
@@ -69,9 +75,9 @@ class Studio:
         text, self.views = self._watched(watched)
         self.run = self._new(text, 1, rate)
         self._does = {
-            "watch": self._watch, "fire": self._fire,
-            "run": self._go_on, "pause": self._pause, "rate": self._set_rate, "again": self._again, "set": self._set,
-            "look": self._look, "add": self._add, "connect": self._connect, "apply": self._apply, "save": self._save, "companion": self._companion,
+            "watch": self._watch, "fire": self._fire, "run": self._go_on, "pause": self._pause, "rate": self._set_rate,
+            "again": self._again, "set": self._set, "look": self._look, "add": self._add, "connect": self._connect,
+            "apply": self._apply, "save": self._save, "companion": self._companion,
         }
 
     @property
@@ -199,7 +205,9 @@ class Studio:
         if graph is None:
             raise Wrong("the text has a fault that has to be mended first: %s" % refused)
         names = [it["name"] for it in graph.blocks]
-        return edit.with_table(text, "block", edit.table_of(edit.free_name(kind.name, names), kind, text_in(asked, "type")))
+        return edit.with_table(
+            text, "block", edit.table_of(edit.free_name(kind.name, names), kind, text_in(asked, "type"))
+        )
 
     async def _watch(self, asked: dict[str, Any]) -> dict[str, str]:
         """The text with a sink behind an output of a block, and the name of that sink."""
@@ -211,10 +219,14 @@ class Studio:
 
     async def _connect(self, asked: dict[str, Any]) -> str:
         """The text with a connection more."""
-        names, ports = [text_in(asked, it) for it in ("from", "to")], [whole(asked, it) or 0 for it in ("from_port", "to_port")]
+        names, ports = [text_in(asked, it) for it in ("from", "to")], [
+            whole(asked, it) or 0 for it in ("from_port", "to_port")
+        ]
         if not all(re.fullmatch(r"[\w.-]+", it, re.ASCII) for it in names):
             raise Wrong("a connection is from a block to a block")
-        return edit.with_table(text_in(asked, "text"), "connect", edit.connect_of(names[0], ports[0], names[1], ports[1]))
+        return edit.with_table(
+            text_in(asked, "text"), "connect", edit.connect_of(names[0], ports[0], names[1], ports[1])
+        )
 
     async def _companion(self, asked: dict[str, Any]) -> dict[str, str]:
         """The text that a drawing becomes."""

@@ -27,14 +27,19 @@ class Thinner:
             before, rest = "in", step
             while rest > 1:
                 count = min(rest, MOST)
-                before, rest = self._behind(before, {"name": "%s%d" % (sink, rest), "kind": kind, "type": item_type, "n": count}), rest // count
+                before, rest = (
+                    self._behind(before, {"name": "%s%d" % (sink, rest), "kind": kind, "type": item_type, "n": count}),
+                    rest // count,
+                )
             self._behind(before, {"name": sink, "kind": "vector_sink", "type": item_type})
         self._stream, self._lock = Stream(self._text), threading.Lock()
 
     def _behind(self, before: str, table: dict[str, edit.Value]) -> str:
         """Puts a block behind another one, and gives its name."""
         name = str(table["name"])
-        self._text = edit.with_table(edit.with_table(self._text, "block", table), "connect", edit.connect_of(before, 0, name, 0))
+        self._text = edit.with_table(
+            edit.with_table(self._text, "block", table), "connect", edit.connect_of(before, 0, name, 0)
+        )
         return name
 
     def extremes(self, items: array.array[int]) -> Iterable[tuple[int, int]]:

@@ -54,7 +54,10 @@ class View:
         if not all(it is None or isinstance(it, str) for it in (key, other)):
             raise BadView("key and other are texts")
         is_whole = asked.get("whole") is True or other is not None
-        return cls(str(asked.get("sink")), number(asked, "span", 1, 2**31), number(asked, "width", *WIDTHS), start, key, is_whole, other)
+        return cls(
+            str(asked.get("sink")), number(asked, "span", 1, 2**31), number(asked, "width", *WIDTHS), start, key,
+            is_whole, other,
+        )
 
     def window(self, trace: Trace, low: int, end: int) -> tuple[int, int]:
         """The items that are shown now, of those from `low` to `end`."""
