@@ -54,7 +54,10 @@ def in_gnu_radio(source: Path, target: Path) -> None:
 
 def graph_file() -> str:
     """The graph that flow-from-grc makes of such a block."""
-    keys = {"type": "s", "out_type": "b", "fsm_args": ", ".join(map(str, CODE)), "block_size": STEPS, "dim": 2, "table": POINTS}
+    keys = {
+        "type": "s", "out_type": "b", "fsm_args": ", ".join(map(str, CODE)), "block_size": STEPS, "dim": 2,
+        "table": POINTS,
+    }
     return drawn("trellis_viterbi_combined_xx", keys, [Stream("short", [])], [Port("byte")]).toml([])
 
 
@@ -62,7 +65,10 @@ def measured(way: Callable[[Path, Path], None], source: Path, target: Path) -> T
     """How many seconds a run takes, and how many all processors work."""
 
     def worked() -> float:
-        return sum(it.ru_utime + it.ru_stime for it in map(resource.getrusage, (resource.RUSAGE_SELF, resource.RUSAGE_CHILDREN)))
+        return sum(
+            it.ru_utime + it.ru_stime
+            for it in map(resource.getrusage, (resource.RUSAGE_SELF, resource.RUSAGE_CHILDREN))
+        )
 
     begun, before = time.perf_counter(), worked()
     way(source, target)
@@ -79,9 +85,17 @@ def main() -> int:
         (room / "graph.toml").write_text(graph_file())
 
         def in_flow(*more: str) -> Callable[[Path, Path], None]:
-            return lambda source, target: subprocess.run(
-                [*words.flow.split(), "run", "-q", *more, "-i", f"in0={source}", "-o", f"out0={target}", str(room / "graph.toml")], check=True, stdout=subprocess.DEVNULL
-            ) and None
+            return (
+                lambda source, target: subprocess.run(
+                    [
+                        *words.flow.split(), "run", "-q", *more, "-i", f"in0={source}", "-o", f"out0={target}",
+                        str(room / "graph.toml"),
+                    ],
+                    check=True,
+                    stdout=subprocess.DEVNULL,
+                )
+                and None
+            )
 
         ways = {"GNU Radio": in_gnu_radio, "one thread": in_flow("--one-thread"), "threads": in_flow()}
         (room / "few").write_bytes(sent(STEPS).tobytes())

@@ -47,7 +47,9 @@ def main():
         rows = [(adders, 1, is_kept) for is_kept in (False, True) for adders in (1, 4, 16)]
         for adders, chains, is_kept in [*rows, (1, 8, False)]:
             rate = best_rate(item, adders, chains, is_kept, seconds)
-            print(f"{item:5} {adders:3} adders {chains:2} chains {'kept' if is_kept else 'null'} {rate:7,.0f}", flush=True)
+            print(
+                f"{item:5} {adders:3} adders {chains:2} chains {'kept' if is_kept else 'null'} {rate:7,.0f}", flush=True
+            )
 
 
 if __name__ == "__main__":

@@ -47,7 +47,10 @@ gr.logging().set_default_level(gr.log_levels.off)
 def items(draw: Draw, item: str, most: int = 300) -> List[int]:
     """Some items, of which the ends of the type's range are as likely as others."""
     low, high = RANGES[item]
-    return [draw.choice([low, high, 0, 1, draw.randint(low, high), draw.randint(max(low, -9), 9)]) for _ in range(draw.randint(1, most))]
+    return [
+        draw.choice([low, high, 0, 1, draw.randint(low, high), draw.randint(max(low, -9), 9)])
+        for _ in range(draw.randint(1, most))
+    ]
 
 
 def rounds(draw: Draw, item: str, taken: int) -> List[int]:
@@ -91,7 +94,10 @@ def mute(draw: Draw, item: str) -> Case:
 def table(draw: Draw, item: str) -> Case:
     values = [draw.randint(-(2**23), 2**23) for _ in range(draw.randint(1, 256))]
     tape = [draw.randrange(len(values)) for _ in range(draw.randint(1, 300))]
-    return Case("table", "", f'to = "int"\nvalues = {values}', [tape], lambda: digital.chunks_to_symbols_bf(values, 1), "int", True)
+    return Case(
+        "table", "", f'to = "int"\nvalues = {values}', [tape], lambda: digital.chunks_to_symbols_bf(values, 1), "int",
+        True,
+    )
 
 
 def correlate_access_code(draw: Draw, item: str) -> Case:
@@ -101,7 +107,9 @@ def correlate_access_code(draw: Draw, item: str) -> Case:
     tape = []
     while len(tape) < 300:
         sent = [int(bit) ^ (draw.random() < 0.05) for bit in code]
-        tape += [draw.randint(0, 255) for _ in range(draw.randint(0, 90))] + [bit | 2 * draw.randint(0, 1) for bit in sent]
+        tape += [draw.randint(0, 255) for _ in range(draw.randint(0, 90))] + [
+            bit | 2 * draw.randint(0, 1) for bit in sent
+        ]
     keys = f'code = "{code}"\nthreshold = {threshold}'
     return Case("correlate_access_code", "", keys, [tape], lambda: digital.correlate_access_code_bb(code, threshold))
 
@@ -134,7 +142,10 @@ def keep_m_in_n(draw: Draw, item: str) -> Case:
     n = draw.randint(1, 40)
     m = draw.randint(1, n)
     offset = draw.randint(0, n - m)
-    return Case("keep_m_in_n", item, f"m = {m}\nn = {n}\noffset = {offset}", [items(draw, item)], lambda: blocks.keep_m_in_n(SIZES[item], m, n, offset))
+    return Case(
+        "keep_m_in_n", item, f"m = {m}\nn = {n}\noffset = {offset}", [items(draw, item)],
+        lambda: blocks.keep_m_in_n(SIZES[item], m, n, offset),
+    )
 
 
 def insert(draw: Draw, item: str) -> Case:
@@ -145,7 +156,10 @@ def insert(draw: Draw, item: str) -> Case:
     keys = f"values = {values}\nperiod = {period}\noffset = {offset}"
     theirs = getattr(blocks, f"vector_insert_{LETTERS[item]}")
     # (there the offset says where in a period, which has the values first, the output begins)
-    return Case("insert", item, keys, [rounds(draw, item, period - len(values))], lambda: theirs(values, period, (period - offset) % period))
+    return Case(
+        "insert", item, keys, [rounds(draw, item, period - len(values))],
+        lambda: theirs(values, period, (period - offset) % period),
+    )
 
 
 class Row(gr.hier_block2):
@@ -169,7 +183,10 @@ class Clocked(gr.hier_block2):
 
 def divide(draw: Draw, item: str) -> Case:
     # (what is divided by 0, and the least int over -1, end GNU Radio's program)
-    inputs = [items(draw, item), *([it if it not in (0, -1) else 3 for it in items(draw, item)] for _ in range(draw.randint(1, 4)))]
+    inputs = [
+        items(draw, item),
+        *([it if it not in (0, -1) else 3 for it in items(draw, item)] for _ in range(draw.randint(1, 4))),
+    ]
     return Case("divide", item, "", inputs, lambda: typed("divide", item)())
 
 
@@ -192,7 +209,10 @@ def ulaw_encode(draw: Draw, item: str) -> Case:
 
 def alaw_encode(draw: Draw, item: str) -> Case:
     # (from -7 to -1 the byte is another in GNU Radio)
-    return Case("alaw_encode", item, "", [[it if not -8 < it < 0 else 0 for it in items(draw, item)]], vocoder.alaw_encode_sb, "byte")
+    return Case(
+        "alaw_encode", item, "", [[it if not -8 < it < 0 else 0 for it in items(draw, item)]], vocoder.alaw_encode_sb,
+        "byte",
+    )
 
 
 def framed(name: str, theirs: str, unread: List[int], *words: int) -> Callable[[Draw, str], Case]:
@@ -202,7 +222,10 @@ def framed(name: str, theirs: str, unread: List[int], *words: int) -> Callable[[
         n = draw.randint(1, 40)
 
         def make() -> Any:
-            return Row(SIZES[item], SIZES[item], [blocks.stream_to_vector(SIZES[item], n), typed(theirs, item)(n, *words)], unread)
+            return Row(
+                SIZES[item], SIZES[item], [blocks.stream_to_vector(SIZES[item], n), typed(theirs, item)(n, *words)],
+                unread,
+            )
 
         return Case(name, item, f"n = {n}", [items(draw, item)], make)
 
@@ -212,13 +235,17 @@ def framed(name: str, theirs: str, unread: List[int], *words: int) -> Callable[[
 def pattern(draw: Draw, item: str) -> Case:
     values, clock = items(draw, item, 256), items(draw, item)
     source = getattr(blocks, f"vector_source_{LETTERS[item]}")
-    return Case("pattern", item, f"values = {values}", [clock], lambda: Clocked(SIZES[item], source(values, True), len(clock)))
+    return Case(
+        "pattern", item, f"values = {values}", [clock], lambda: Clocked(SIZES[item], source(values, True), len(clock))
+    )
 
 
 def counter(draw: Draw, item: str) -> Case:
     n, clock = draw.randint(1, 200), items(draw, item)
     source = getattr(blocks, f"vector_source_{LETTERS[item]}")
-    return Case("counter", item, f"n = {n}", [clock], lambda: Clocked(SIZES[item], source(list(range(n)), True), len(clock)))
+    return Case(
+        "counter", item, f"n = {n}", [clock], lambda: Clocked(SIZES[item], source(list(range(n)), True), len(clock))
+    )
 
 
 FLOATS = {"byte": blocks.uchar_to_float, "short": blocks.short_to_float, "int": blocks.int_to_float}
@@ -287,7 +314,11 @@ KINDS: Dict[str, Tuple[Callable[[Draw, str], Case], Tuple[str, ...]]] = {
 def graph_of(case: Case) -> str:
     """The graph file of a case, fed."""
     item = case.item or "byte"
-    kind = f'[[block]]\nname = "f"\nkind = "{case.kind}"\n' + (f'type = "{case.item}"\n' if case.item else "") + (case.keys + "\n" if case.keys else "")
+    kind = (
+        f'[[block]]\nname = "f"\nkind = "{case.kind}"\n'
+        + (f'type = "{case.item}"\n' if case.item else "")
+        + (case.keys + "\n" if case.keys else "")
+    )
     text = [kind, f'[[block]]\nname = "out"\nkind = "vector_sink"\ntype = "{case.to or item}"\n']
     for port, tape in enumerate(case.inputs):
         text.append(f'[[block]]\nname = "s{port}"\nkind = "vector_source"\ntype = "{item}"\n')
@@ -301,7 +332,11 @@ def theirs_of(case: Case) -> List[int]:
     """What GNU Radio's block gives."""
     letter = LETTERS[case.item or "byte"]
     top, block = gr.top_block(), case.make()
-    sink = blocks.vector_sink_f() if case.is_float else getattr(blocks, f"vector_sink_{LETTERS[case.to or case.item or 'byte']}")()
+    sink = (
+        blocks.vector_sink_f()
+        if case.is_float
+        else getattr(blocks, f"vector_sink_{LETTERS[case.to or case.item or 'byte']}")()
+    )
     for port, tape in enumerate(case.inputs):
         top.connect(getattr(blocks, f"vector_source_{letter}")(tape), (block, port))
     top.connect(block, sink)
@@ -349,7 +384,10 @@ def main() -> int:
                 if ours == theirs:
                     equal += 1
                 elif words.cases - equal < 4 or equal == number:
-                    print(f"{kind} {number}: GNU Radio gives {theirs[:20]}.., {len(theirs)} items; Magbelu {ours[:20]}.., {len(ours)}\n{graph_of(case)[:600]}")
+                    print(
+                        f"{kind} {number}: GNU Radio gives {theirs[:20]}.., {len(theirs)} items; Magbelu "
+                        f"{ours[:20]}.., {len(ours)}\n{graph_of(case)[:600]}"
+                    )
                 if words.write and number < 2:
                     write(words.write, number, case, theirs)
             differ += words.cases - equal

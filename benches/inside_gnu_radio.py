@@ -48,12 +48,20 @@ def filters(count):
 
 def float_filter():
     """Returns GNU Radio's filter of shorts: one of floats between converters."""
-    return [blocks.short_to_float(1, 1), filter.fir_filter_fff(1, [it / 4096 for it in TAPS]), blocks.float_to_short(1, 1)]
+    return [
+        blocks.short_to_float(1, 1), filter.fir_filter_fff(1, [it / 4096 for it in TAPS]), blocks.float_to_short(1, 1),
+    ]
 
 
 ROWS = [
-    *[("bytes %2d adders" % it, 1, lambda it=it: [blocks.add_const_bb(1) for _ in range(it)], adders("byte", it)) for it in (1, 4, 16)],
-    *[("ints  %2d adders" % it, 4, lambda it=it: [blocks.add_const_ii(1) for _ in range(it)], adders("int", it)) for it in (1, 4, 16)],
+    *[
+        ("bytes %2d adders" % it, 1, lambda it=it: [blocks.add_const_bb(1) for _ in range(it)], adders("byte", it))
+        for it in (1, 4, 16)
+    ],
+    *[
+        ("ints  %2d adders" % it, 4, lambda it=it: [blocks.add_const_ii(1) for _ in range(it)], adders("int", it))
+        for it in (1, 4, 16)
+    ],
     ("shorts 64 taps", 2, float_filter, filters(1)),
 ]
 
@@ -101,11 +109,18 @@ def main():
     seconds = float(sys.argv[1]) if len(sys.argv) > 1 else 1.0
     print("GNU Radio %s, the library's calls %d" % (gr.version(), magbelu.version()))
     for name, size, own, text in ROWS:
-        print("%-15s GNU Radio %7.0f, %5.1f ns  a graph file inside %7.0f, %5.1f ns" % (name, *rates(size, own, text, seconds)), flush=True)
+        print(
+            "%-15s GNU Radio %7.0f, %5.1f ns  a graph file inside %7.0f, %5.1f ns"
+            % (name, *rates(size, own, text, seconds)),
+            flush=True,
+        )
     print("KiB held after %d bytes: %d" % (FEW, held(FEW)))
     if len(sys.argv) > 2:
         print("KiB held after %d bytes: %d" % (int(float(sys.argv[2])), held(int(float(sys.argv[2])))))
-    for name, text, dtype in (("1 adder of bytes", adders("byte", 1), "uint8"), ("4 adders of ints", adders("int", 4), "int32"), ("64 taps of shorts", filters(1), "int16")):
+    for name, text, dtype in (
+        ("1 adder of bytes", adders("byte", 1), "uint8"), ("4 adders of ints", adders("int", 4), "int32"),
+        ("64 taps of shorts", filters(1), "int16"),
+    ):
         print("a call of 1,000 items, %s: %.1f us" % (name, call(text, dtype)))
 
 

@@ -99,7 +99,13 @@ class Row:
     def processes(self, way, count):
         """Each slice as a process of its own, and the time of joining them not counted."""
         part = "%s.%%d" % way
-        took = timed(lambda at: [self.flow, "run", "--quiet", "--one-thread", "--slice", "%d/%d" % (at + 1, count), *self.ends(part % at)], count)
+        took = timed(
+            lambda at: [
+                self.flow, "run", "--quiet", "--one-thread", "--slice", "%d/%d" % (at + 1, count),
+                *self.ends(part % at),
+            ],
+            count,
+        )
         for whole, *parts in zip(self.outputs(way), *(self.outputs(part % at) for at in range(count))):
             with open(whole, "wb") as joined:
                 for path in parts:

@@ -27,7 +27,9 @@ def of_text(text: str) -> Parts:
         found[f"{start}:{start_side}->{end}:{end_side}"] = ([label], colour.lower())
     for start, end, colour in re.findall(r'(?m)^  "([^"]+)" -> "([^"]+)" \[.*color="([^"]*)"\];$', text):
         found[f"{start}->{end}"] = ([], colour)
-    for name, label, colour, inside in re.findall(r'(?ms)^  subgraph (\w+) \{ label="([^"]*)";.*?color="([^"]*)";$(.*?)^  \}$', text):
+    for name, label, colour, inside in re.findall(
+        r'(?ms)^  subgraph (\w+) \{ label="([^"]*)";.*?color="([^"]*)";$(.*?)^  \}$', text
+    ):
         nodes = re.findall('"([^"]+)";', inside)
         found[name] = ([label, *sorted(nodes)], colour)
         found.update((node, ([node], "black")) for node in nodes)
@@ -36,7 +38,9 @@ def of_text(text: str) -> Parts:
 
 def box(part: tree.Element) -> Tuple[float, float, float, float]:
     """The left, top, right and bottom of a node or a group."""
-    points = [tuple(map(float, it.split(","))) for line in part.iter(f"{SVG}polygon") for it in line.get("points", "").split()]
+    points = [
+        tuple(map(float, it.split(","))) for line in part.iter(f"{SVG}polygon") for it in line.get("points", "").split()
+    ]
     return min(x for x, _ in points), min(y for _, y in points), max(x for x, _ in points), max(y for _, y in points)
 
 
@@ -44,7 +48,9 @@ def inside(group: tree.Element, nodes: List[tree.Element]) -> List[str]:
     """The nodes that stand in a group."""
     left, top, right, bottom = box(group)
     boxes = {node.findtext(f"{SVG}title", ""): box(node) for node in nodes}
-    return sorted(name for name, it in boxes.items() if left <= it[0] and top <= it[1] and it[2] <= right and it[3] <= bottom)
+    return sorted(
+        name for name, it in boxes.items() if left <= it[0] and top <= it[1] and it[2] <= right and it[3] <= bottom
+    )
 
 
 def of_picture(root: tree.Element) -> Parts:
@@ -57,7 +63,10 @@ def of_picture(root: tree.Element) -> Parts:
         line = part.find(f"{SVG}polygon")
         colour = line.get("stroke", "") if line is not None else ""
         words = [it.text or "" for it in part.iter(f"{SVG}text")]
-        found[part.findtext(f"{SVG}title", "")] = (words + (inside(part, nodes) if part.get("class") == "cluster" else []), colour)
+        found[part.findtext(f"{SVG}title", "")] = (
+            words + (inside(part, nodes) if part.get("class") == "cluster" else []),
+            colour,
+        )
     return found
 
 

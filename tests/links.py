@@ -42,7 +42,9 @@ def of_markdown(text: str) -> Page:
     page = Page()
     text = re.sub(r"(?ms)^```.*?^```$", "", text)
     page.links = re.findall(r"\]\(([^)\s]+)\)", re.sub(r"`[^`\n]*`", "", text))
-    page.names = {re.sub(r"[^\w\- ]", "", title.lower()).strip().replace(" ", "-") for title in re.findall(r"(?m)^#+ (.*)$", text)}
+    page.names = {
+        re.sub(r"[^\w\- ]", "", title.lower()).strip().replace(" ", "-") for title in re.findall(r"(?m)^#+ (.*)$", text)
+    }
     return page
 
 
@@ -78,7 +80,11 @@ def main() -> int:
     """Prints the faults of all pages."""
     top = Path(sys.argv[1]).resolve()
     suffixes = sys.argv[2:] or [".md"]
-    pages = [page for page in sorted(top.rglob("*")) if page.suffix in suffixes and not {"out", ".git"} & set(page.relative_to(top).parts)]
+    pages = [
+        page
+        for page in sorted(top.rglob("*"))
+        if page.suffix in suffixes and not {"out", ".git"} & set(page.relative_to(top).parts)
+    ]
     found = [fault for page in pages for fault in faults(page, top)]
     print("\n".join(found), end="\n" if found else "")
     return 1 if found or not pages else 0

@@ -31,7 +31,9 @@ def cases() -> Iterator[Case]:
         key, _, text = line.partition(": ")
         if line and not line.startswith("#"):
             if key.rstrip(":") != Case._fields[len(texts)]:
-                raise ValueError(f"turned_facts.txt: {line!r} stands where a line of the key {Case._fields[len(texts)]} belongs")
+                raise ValueError(
+                    f"turned_facts.txt: {line!r} stands where a line of the key {Case._fields[len(texts)]} belongs"
+                )
             texts.append(text.replace("\\n", "\n"))
         if len(texts) == len(Case._fields):
             yield Case(*texts)
@@ -60,7 +62,9 @@ def main() -> int:
         seen |= {list_of(line) for line in told}
         wanted = case.told if case.file.endswith(".toml") else case.file
         if not any(wanted in line and case.told in line for line in told):
-            wrong.append(f"{case.file}: {case.old!r} turned into {case.new!r}: wanted {case.told!r}, and it tells {told}")
+            wrong.append(
+                f"{case.file}: {case.old!r} turned into {case.new!r}: wanted {case.told!r}, and it tells {told}"
+            )
     wrong += [f"{name}: no case turns it" for name in lists_of(tree) if name not in seen]
     print("\n".join(wrong), end="\n" if wrong else "")
     return 1 if wrong else 0

@@ -25,7 +25,9 @@ graph
 
 # %% The recording: a slow sine, a whistle of a quarter of the sample rate that is half as strong, and noise.
 maker = pathlib.Path(__file__).resolve().parents[1] / "signal" / "make.py"
-recording = subprocess.run([sys.executable, maker, "recording", "/dev/stdout"], stdout=subprocess.PIPE, check=True).stdout
+recording = subprocess.run(
+    [sys.executable, maker, "recording", "/dev/stdout"], stdout=subprocess.PIPE, check=True
+).stdout
 print(graph.feed("adc", recording, tags=[(2400, "half", 1), (4800, "whole", 1)]), "samples")
 
 # %% What comes through.

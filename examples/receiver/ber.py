@@ -51,7 +51,10 @@ def run(graph: str, source: str, items: numpy.ndarray, sinks: List[str]) -> Dict
     with tempfile.TemporaryDirectory() as room:
         items.tofile(Path(room) / source)
         outputs = [word for sink in sinks for word in ("-o", f"{sink}={room}/{sink}")]
-        subprocess.run(["flow", "run", "--quiet", "-i", f"{source}={room}/{source}", *outputs, HERE / graph], check=True, stdout=subprocess.DEVNULL)
+        subprocess.run(
+            ["flow", "run", "--quiet", "-i", f"{source}={room}/{source}", *outputs, HERE / graph], check=True,
+            stdout=subprocess.DEVNULL,
+        )
         return {sink: numpy.fromfile(Path(room) / sink, numpy.uint8) for sink in sinks}
 
 

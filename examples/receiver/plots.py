@@ -37,7 +37,9 @@ def filter_plot() -> Plot:
     """The spectrum before the filter and behind it."""
     pairs = read("recording.iq", "u1").reshape(-1, 2) - 128
     plot = Plot((-128, 128), (LEAST, 30))
-    plot.axes([(at, str(at)) for at in range(-128, 129, 32)], [(at, str(at)) for at in range(LEAST, 31, 10)], "kHz", "dB")
+    plot.axes(
+        [(at, str(at)) for at in range(-128, 129, 32)], [(at, str(at)) for at in range(LEAST, 31, 10)], "kHz", "dB"
+    )
     plot.line(spectrum(pairs[:, 0] + 1j * pairs[:, 1], RATE, 512), GREY)
     plot.line(spectrum((read("i.s16", "<i2") + 1j * read("q.s16", "<i2")) / GAIN, RATE / EVERY, 128), BLUE)
     plot.legend([(GREY, "the recording"), (BLUE, "behind the filter")], LEFT + 12, TOP + 16)
@@ -51,7 +53,10 @@ def frequency_plot() -> Plot:
     # of an amplitude of the filtered signal, without noise
     amplitude = LEVEL * GAIN / numpy.sqrt(1 + SAMPLES / 10 ** (RATIO / 10))
     plot = Plot((first, first + count), (-3000, 3000))
-    plot.axes([(at, str(at)) for at in range(first, first + count + 1, 40)], [(at, str(at)) for at in range(-3000, 3001, 1000)], "item", "frequency")
+    plot.axes(
+        [(at, str(at)) for at in range(first, first + count + 1, 40)],
+        [(at, str(at)) for at in range(-3000, 3001, 1000)], "item", "frequency",
+    )
     plot.line(list(enumerate(items, first)), BLUE)
     for tone, text in ((DEVIATION, "a 1: 5 kHz"), (0, "the carrier: 1 kHz"), (-DEVIATION, "a 0: -3 kHz")):
         height = amplitude**2 * numpy.sin(2 * numpy.pi * (OFFSET + tone) * EVERY / RATE) / 256
@@ -68,7 +73,10 @@ def levels_plot() -> Plot:
     levels = read("soft.s32", "<i4")[blocks["skip"]["n"] + blocks["frame"]["m"] - blocks["frame"]["n"] :][: len(sent)]
     edges = numpy.arange(-18_000, 18_001, 1000)
     plot = Plot((edges[0], edges[-1]), (0, 400))
-    plot.axes([(at, str(at)) for at in range(-15_000, 15_001, 5000)], [(at, str(at)) for at in range(0, 401, 100)], "level", "bits")
+    plot.axes(
+        [(at, str(at)) for at in range(-15_000, 15_001, 5000)], [(at, str(at)) for at in range(0, 401, 100)], "level",
+        "bits",
+    )
     for bit, colour in ((0, ORANGE), (1, BLUE)):
         counts, _ = numpy.histogram(levels[sent == bit], edges)
         plot.line(zip(edges[:-1] + 500, counts), colour)
@@ -84,7 +92,10 @@ def frames_plot() -> Plot:
     bits = numpy.concatenate([numpy.zeros(len(code), numpy.int64), items & 1])
     alike = [int((bits[at : at + len(code)] == code).sum()) for at in range(len(items))]
     plot = Plot((0, len(items)), (0, 66))
-    plot.axes([(at, str(at)) for at in range(0, len(items), 1000)], [(at, str(at)) for at in range(0, 65, 16)], "bit", "bits as in the code")
+    plot.axes(
+        [(at, str(at)) for at in range(0, len(items), 1000)], [(at, str(at)) for at in range(0, 65, 16)], "bit",
+        "bits as in the code",
+    )
     plot.line([(at, max(alike[at : at + 8])) for at in range(0, len(items), 8)], BLUE, 0.8)
     plot.dots([(at, alike[at]) for at in numpy.flatnonzero(items & 2)], RED)
     return plot
@@ -109,8 +120,13 @@ def text_plot() -> Plot:
     sent = read("sent.u8", "u1").reshape(-1, frame["n"])[:, frame["n"] - frame["m"] :]
     count = len(sent)
     came = read("soft.s32", "<i4")[blocks["skip"]["n"] :][: count * frame["n"]].reshape(count, -1)[:, : frame["m"]] >= 0
-    shown, wanted = (numpy.frombuffer(path.read_bytes(), numpy.uint8).reshape(count, -1) for path in (Path("lines.txt"), HERE / "text.txt"))
-    lines, right = (numpy.unpackbits(numpy.ascontiguousarray(bits), axis=1) for bits in (shown[:, 1:-1], wanted[:, :-1]))
+    shown, wanted = (
+        numpy.frombuffer(path.read_bytes(), numpy.uint8).reshape(count, -1)
+        for path in (Path("lines.txt"), HERE / "text.txt")
+    )
+    lines, right = (
+        numpy.unpackbits(numpy.ascontiguousarray(bits), axis=1) for bits in (shown[:, 1:-1], wanted[:, :-1])
+    )
     plot = Plot((0, frame["m"]), (0, 2 * count + 1), 340)
     plot.axes([(at, str(at)) for at in range(0, frame["m"] + 1, 51)], [], "bit", "")
     draw_rows(plot, came, sent, 2 * count + 1)
@@ -127,7 +143,10 @@ def errors_plot() -> Plot:
     # a bit of text has the energy of two that are sent
     rate = 10 * numpy.log10(2)
     plot = Plot((4, 13), (-5, 0), HEIGHT + 120)
-    plot.axes([(at, str(at)) for at in range(4, 14)], [(at, f"1e{at}") for at in range(-5, 1)], "Eb/N0 in dB", "part of the bits that is wrong")
+    plot.axes(
+        [(at, str(at)) for at in range(4, 14)], [(at, f"1e{at}") for at in range(-5, 1)], "Eb/N0 in dB",
+        "part of the bits that is wrong",
+    )
     for colour, ratios, chance in (
         (GREEN, numpy.arange(4, 14), theory.ideal),
         (ORANGE, numpy.arange(4, 14), lambda ratio: theory.wrong(parts, ratio, False)),
@@ -138,8 +157,14 @@ def errors_plot() -> Plot:
     counts = [tuple(map(float, line.split())) for line in (HERE / "ber.txt").read_text().splitlines()]
     plot.dots([(ratio, numpy.log10(wrong / count)) for ratio, count, wrong, _, _ in counts if ratio >= 4], RED)
     plot.dots([(ratio + rate, numpy.log10(wrong / count)) for ratio, _, _, count, wrong in counts if wrong], PURPLE)
-    texts = ["the ideal receiver of two tones", "this receiver, with the carrier known", "this receiver, with the mean of 128 bits", "runs of flow without a code"]
-    plot.legend(list(zip((GREEN, ORANGE, BLUE, RED, PURPLE), [*texts, "the bound with the code, and runs of flow"])), LEFT + 12, HEIGHT + 120 - BOTTOM - 85)
+    texts = [
+        "the ideal receiver of two tones", "this receiver, with the carrier known",
+        "this receiver, with the mean of 128 bits", "runs of flow without a code",
+    ]
+    plot.legend(
+        list(zip((GREEN, ORANGE, BLUE, RED, PURPLE), [*texts, "the bound with the code, and runs of flow"])), LEFT + 12,
+        HEIGHT + 120 - BOTTOM - 85,
+    )
     return plot
 
 

@@ -30,7 +30,9 @@ class Plot:
 
     def dots(self, points: Iterable[Point], colour: str) -> None:
         """A dot at each point."""
-        self.parts.extend(f'<circle cx="{x:.1f}" cy="{y:.1f}" r="3.5" fill="{colour}"/>' for x, y in map(self.place, points))
+        self.parts.extend(
+            f'<circle cx="{x:.1f}" cy="{y:.1f}" r="3.5" fill="{colour}"/>' for x, y in map(self.place, points)
+        )
 
     def stripes(self, runs: Iterable[Tuple[float, float, float]], thick: float, colour: str) -> None:
         """A stripe for each of these: from one place across to another, at a place up; all are so thick, in pixels."""
@@ -43,14 +45,18 @@ class Plot:
     def words(self, x: float, y: float, text: str, colour: str = "black", anchor: str = "start") -> None:
         """A text at a place of the picture, in pixels, with a white edge over what is drawn there."""
         edge = 'stroke="white" stroke-width="3" paint-order="stroke"'
-        self.parts.append(f'<text x="{x:.1f}" y="{y:.1f}" fill="{colour}" text-anchor="{anchor}" {edge}>{escape(text)}</text>')
+        self.parts.append(
+            f'<text x="{x:.1f}" y="{y:.1f}" fill="{colour}" text-anchor="{anchor}" {edge}>{escape(text)}</text>'
+        )
 
     def legend(self, entries: Sequence[Tuple[str, str]], left: float, top: float) -> None:
         """A line of text for each colour and what it shows."""
         for number, (colour, text) in enumerate(entries):
             self.words(left, top + 17 * number, text, colour)
 
-    def axes(self, ticks: Sequence[Tuple[float, str]], marks: Sequence[Tuple[float, str]], below: str, beside: str) -> None:
+    def axes(
+        self, ticks: Sequence[Tuple[float, str]], marks: Sequence[Tuple[float, str]], below: str, beside: str
+    ) -> None:
         """Thin lines at these places across and up, each with its text, and what the axes show."""
         for value, text in ticks:
             self.line([(value, self.up[0]), (value, self.up[1])], "#e4e4e4", 1)
@@ -60,9 +66,13 @@ class Plot:
             self.words(LEFT - 6, self.place((0, value))[1] + 4, text, anchor="end")
         self.words((LEFT + WIDTH - RIGHT) / 2, self.height - 8, below, anchor="middle")
         middle = (TOP + self.height - BOTTOM) / 2
-        self.parts.append(f'<text transform="translate(14 {middle:.1f}) rotate(-90)" text-anchor="middle">{escape(beside)}</text>')
+        self.parts.append(
+            f'<text transform="translate(14 {middle:.1f}) rotate(-90)" text-anchor="middle">{escape(beside)}</text>'
+        )
 
     def text(self) -> str:
         """The picture."""
         head = f'<svg xmlns="http://www.w3.org/2000/svg" viewBox="0 0 {WIDTH} {self.height}" font-family="sans-serif" font-size="12">'
-        return "\n".join([head, f'<rect width="{WIDTH}" height="{self.height}" fill="white"/>', *self.parts, "</svg>", ""])
+        return "\n".join(
+            [head, f'<rect width="{WIDTH}" height="{self.height}" fill="white"/>', *self.parts, "</svg>", ""]
+        )

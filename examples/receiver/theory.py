@@ -81,7 +81,9 @@ def level_of(parts: Sum, ratio: float, spread: bool) -> Level:
         forms = (numpy.log(1 + scaled) + scaled * powers.T / (1 + scaled)).sum(axis=-1)
         all_runs = s[:, None] * carrier - forms
         most = all_runs.real.max(axis=-1, keepdims=True)
-        return (most + numpy.log(numpy.exp(all_runs - most).mean(axis=-1, keepdims=True)))[:, 0] + s**2 * share**2 / MEAN / 2
+        return (most + numpy.log(numpy.exp(all_runs - most).mean(axis=-1, keepdims=True)))[
+            :, 0
+        ] + s**2 * share**2 / MEAN / 2
 
     return Level(logarithm, 1 / abs(weights).max())
 
@@ -108,7 +110,10 @@ def wrong_bits(graph: Path) -> List[int]:
     and come back, and differ in so many bits from the one that stays there, how many symbols are 1. From 10 on these
     are 36, 0, 211, 0, 1404, as in tables of the code of 64 states with the polynomials 171 and 133."""
     decoder = blocks_of(graph)["decode"]
-    rows = [(at // 2, at % 2, state, output.bit_count()) for at, (state, output) in enumerate(zip(decoder["next"], decoder["output"]))]
+    rows = [
+        (at // 2, at % 2, state, output.bit_count())
+        for at, (state, output) in enumerate(zip(decoder["next"], decoder["output"]))
+    ]
     # for each state and distance how many paths there are, and how many ones these have
     counts = numpy.zeros((2, len(rows) // 2, DISTANCE + 1), int)
     counts[:, 0, 0] = 1, 0

@@ -53,7 +53,9 @@ class Noting:
         return self.note("feed", ctypes.string_at(name, name_len), big_endian, ctypes.string_at(data, data_len), tags)
 
     def magbelu_bytes_feed_numbers(self, plant, name, name_len, data, count, tags, tag_count):
-        return self.note("numbers", ctypes.string_at(name, name_len), ctypes.cast(data, ctypes.POINTER(ctypes.c_int64))[:count])
+        return self.note(
+            "numbers", ctypes.string_at(name, name_len), ctypes.cast(data, ctypes.POINTER(ctypes.c_int64))[:count]
+        )
 
     def magbelu_bytes_close(self, plant, name, name_len):
         return self.note("close", ctypes.string_at(name, name_len))
@@ -134,7 +136,9 @@ class Telling(Noting):
             return _library.SettingReply(0, 0, 2, 0, 0, 0, 300)
         if number == 1:
             return _library.SettingReply(0, 0, 1, low, high, -3, 0)
-        return _library.SettingReply(0, 0, 0, 0, 0, 0, 0) if number == 2 else _library.SettingReply(1, 20, 0, 0, 0, 0, 0)
+        return (
+            _library.SettingReply(0, 0, 0, 0, 0, 0, 0) if number == 2 else _library.SettingReply(1, 20, 0, 0, 0, 0, 0)
+        )
 
     def magbelu_bytes_rates(self, plant, number, takes, room):
         if number > 2:
@@ -182,21 +186,42 @@ def raises(kind, call):
 
 
 def items_are_integers():
-    for item in [0.9, 1.0, 1j, "1", b"1", None, True, False, fractions.Fraction(1), decimal.Decimal("1.5"), decimal.Decimal(1), [1]]:
-        assert said_by(lambda: graph.feed("src", [1, item]), TypeError).startswith("an item is an integer, and no "), item
-    for items in ["12", "", 5, None, {1: 2}, {1}, frozenset(), array.array("f", [1]), array.array("d", [0.9]), array.array("u", "1")]:
+    for item in [
+        0.9, 1.0, 1j, "1", b"1", None, True, False, fractions.Fraction(1), decimal.Decimal("1.5"), decimal.Decimal(1),
+        [1],
+    ]:
+        assert said_by(lambda: graph.feed("src", [1, item]), TypeError).startswith(
+            "an item is an integer, and no "
+        ), item
+    for items in [
+        "12", "", 5, None, {1: 2}, {1}, frozenset(), array.array("f", [1]), array.array("d", [0.9]),
+        array.array("u", "1"),
+    ]:
         raises(TypeError, lambda: graph.feed("src", items))
-    for items in [[1, 2], (1, 2), range(1, 3), iter([1, 2]), [Number(1), Number(2)], array.array("q", [1, 2]), array.array("B", [1, 2]), memoryview(array.array("h", [1, 2]))]:
+    for items in [
+        [1, 2], (1, 2), range(1, 3), iter([1, 2]), [Number(1), Number(2)], array.array("q", [1, 2]),
+        array.array("B", [1, 2]), memoryview(array.array("h", [1, 2])),
+    ]:
         makes(lambda: graph.feed("src", items), "numbers", b"src", [1, 2])
     # What no 64 bits hold is no item: the library gets the nearest number, and refuses that.
-    makes(lambda: graph.feed("src", [2**70, -(2**70), high + 1, low - 1, Number(2**64)]), "numbers", b"src", [high, low, high, low, high])
+    makes(
+        lambda: graph.feed("src", [2**70, -(2**70), high + 1, low - 1, Number(2**64)]), "numbers", b"src",
+        [high, low, high, low, high],
+    )
 
 
 def bytes_are_items():
-    for items in [b"\1\2", bytearray(b"\1\2"), memoryview(b"\1\2"), memoryview(b"\1-\2")[::2], memoryview(bytearray(b"\1\2"))]:
+    for items in [
+        b"\1\2", bytearray(b"\1\2"), memoryview(b"\1\2"), memoryview(b"\1-\2")[::2], memoryview(bytearray(b"\1\2")),
+    ]:
         makes(lambda: graph.feed("src", items, big_endian=True), "feed", b"src", True, b"\1\2", [])
-    makes(lambda: graph.feed("src", array.array("h", [1, -2]), big_endian=True), "feed", b"src", False, b"\1\0\xfe\xff", [])
-    for items in [memoryview(b"\1\2\3\4").cast("f"), memoryview(b"\1\2\3\4").cast("B", (2, 2)), memoryview(b"\1").cast("?")]:
+    makes(
+        lambda: graph.feed("src", array.array("h", [1, -2]), big_endian=True), "feed", b"src", False, b"\1\0\xfe\xff",
+        [],
+    )
+    for items in [
+        memoryview(b"\1\2\3\4").cast("f"), memoryview(b"\1\2\3\4").cast("B", (2, 2)), memoryview(b"\1").cast("?"),
+    ]:
         raises(TypeError, lambda: graph.feed("src", items))
     for order in [1, 0, "little", "big", None, 1.0]:
         raises(TypeError, lambda: graph.feed("src", b"\1\2", big_endian=order))
@@ -211,10 +236,15 @@ def tags_are_whole():
         makes(lambda: graph.feed("src", b"", [(offset, "k", 1)]), "feed", b"src", False, b"", [(2**64 - 1, b"k", 1)])
     for value in [2**63, low - 1, 2**64, 2**70]:
         raises(ValueError, lambda: graph.feed("src", b"", [(0, "k", value)]))
-    for offset, key, value in [(0.0, "k", 1), (0, "k", 1.5), (True, "k", 1), (0, "k", False), ("0", "k", 1), (0, 5, 1), (0, None, 1), (0, "k", None)]:
+    for offset, key, value in [
+        (0.0, "k", 1), (0, "k", 1.5), (True, "k", 1), (0, "k", False), ("0", "k", 1), (0, 5, 1), (0, None, 1),
+        (0, "k", None),
+    ]:
         raises(TypeError, lambda: graph.feed("src", b"", [(offset, key, value)]))
     for tags in [[(0, "k")], [(0, "k", 1, 0)]]:
-        assert said_by(lambda: graph.feed("src", b"", tags), ValueError) == "a tag is (offset, key, value), and not %r" % (tags[0],)
+        assert said_by(
+            lambda: graph.feed("src", b"", tags), ValueError
+        ) == "a tag is (offset, key, value), and not %r" % (tags[0],)
     assert said_by(lambda: graph.feed("src", b"", (0, "k", 1)), TypeError) == "a tag is (offset, key, value), and not 0"
 
 
@@ -246,10 +276,16 @@ def counts_are_whole():
     makes(lambda: graph.read("o"), "read", 0, 2**64 - 1)
     makes(lambda: stream.drain("o", Number(2)), "drain", 2)
     makes(lambda: stream.drain("o"), "drain", 2**64 - 1)
-    for call in [lambda: graph.step("s", -1), lambda: graph.read("o", -1), lambda: graph.read("o", 0, -1), lambda: stream.drain("o", -1), lambda: magbelu.run_items("", [], [], room=-1)]:
+    for call in [
+        lambda: graph.step("s", -1), lambda: graph.read("o", -1), lambda: graph.read("o", 0, -1),
+        lambda: stream.drain("o", -1), lambda: magbelu.run_items("", [], [], room=-1),
+    ]:
         raises(ValueError, call)
     for count in [1.0, "1", True]:
-        for call in [lambda: graph.step("s", count), lambda: graph.read("o", count), lambda: graph.read("o", 0, count), lambda: stream.drain("o", count), lambda: magbelu.run_items("", [], [], room=count)]:
+        for call in [
+            lambda: graph.step("s", count), lambda: graph.read("o", count), lambda: graph.read("o", 0, count),
+            lambda: stream.drain("o", count), lambda: magbelu.run_items("", [], [], room=count),
+        ]:
             raises(TypeError, call)
     raises(TypeError, lambda: graph.step("s", None))
     raises(TypeError, lambda: graph.read("o", None))
@@ -260,9 +296,15 @@ def names_are_text():
     makes(lambda: graph.close("a\0\u00e4"), "close", b"a\0\xc3\xa4")
     makes(lambda: stream.need(b"src"), "need", b"src")
     for name in [5, None, 1.0, ["src"], memoryview(b"src")]:
-        for call in [lambda: graph.close(name), lambda: graph.feed(name, []), lambda: graph.set(name, 1), lambda: graph.step(name), lambda: graph.read(name), lambda: stream.drain(name), lambda: stream.need(name)]:
+        for call in [
+            lambda: graph.close(name), lambda: graph.feed(name, []), lambda: graph.set(name, 1),
+            lambda: graph.step(name), lambda: graph.read(name), lambda: stream.drain(name), lambda: stream.need(name),
+        ]:
             raises(TypeError, call)
-        for call in [lambda: magbelu.Graph(name), lambda: magbelu.Stream(name), lambda: magbelu.check(name), lambda: magbelu.run(name), lambda: magbelu.script("", name)]:
+        for call in [
+            lambda: magbelu.Graph(name), lambda: magbelu.Stream(name), lambda: magbelu.check(name),
+            lambda: magbelu.run(name), lambda: magbelu.script("", name),
+        ]:
             raises(TypeError, call)
         raises(TypeError, lambda: magbelu.run_items("", [(name, b"")], []))
     # (what is no text in UTF-8 cannot be a name)
@@ -271,14 +313,23 @@ def names_are_text():
 
 def raw_inputs_are_bytes():
     for data in [b"\1\2", bytearray(b"\1\2"), memoryview(b"\1\2"), array.array("B", [1, 2]), array.array("b", [1, 2])]:
-        makes(lambda: magbelu.run_items("", [("src", data)], ["out", ("out", "tags")], big_endian=True), "items", True, [b"\1\2"], [0, 1])
-    for data in [array.array("h", [1]), array.array("f", [1]), array.array("i"), memoryview(b"\1\2").cast("h"), memoryview(b"\1\2\3\4").cast("B", (2, 2)), "12", [1, 2], 5, None]:
+        makes(
+            lambda: magbelu.run_items("", [("src", data)], ["out", ("out", "tags")], big_endian=True), "items", True,
+            [b"\1\2"], [0, 1],
+        )
+    for data in [
+        array.array("h", [1]), array.array("f", [1]), array.array("i"), memoryview(b"\1\2").cast("h"),
+        memoryview(b"\1\2\3\4").cast("B", (2, 2)), "12", [1, 2], 5, None,
+    ]:
         raises(TypeError, lambda: magbelu.run_items("", [("src", data)], []))
     for what in ["tag", "Tags", "", "items", None, True, b"tags"]:
         raises(ValueError, lambda: magbelu.run_items("", [], [("o", what)]))
     for outputs in ["out", b"out", bytearray(b"out")]:
         raises(TypeError, lambda: magbelu.run_items("", [], outputs))
-    makes(lambda: magbelu.run_items("", [], [b"out", bytearray(b"ab"), (bytearray(b"out"), "tags")]), "items", False, [], [0, 0, 1])
+    makes(
+        lambda: magbelu.run_items("", [], [b"out", bytearray(b"ab"), (bytearray(b"out"), "tags")]), "items", False, [],
+        [0, 0, 1],
+    )
     makes(lambda: magbelu.run_items("", iter([("src", b"")]), iter(["out"])), "items", False, [b""], [0])
 
 
@@ -286,7 +337,9 @@ def pieces_are_items():
     """A source may have any name, and is closed behind its last piece: None is no end of them."""
     _library._loaded = own = Lacking()
     assert list(magbelu.Stream("").through(**{"self": [[1, 2], b"", [3]]})) == []
-    assert own.noted == [("numbers", b"self", [1, 2]), ("feed", b"self", False, b"", []), ("numbers", b"self", [3]), ("close", b"self")], own.noted
+    assert own.noted == [
+        ("numbers", b"self", [1, 2]), ("feed", b"self", False, b"", []), ("numbers", b"self", [3]), ("close", b"self"),
+    ], own.noted
     _library._loaded = own = Lacking()
     pieces = magbelu.Stream("").through(src=[[1], None, [2]])
     try:
@@ -305,7 +358,9 @@ def pieces_are_no_items():
     for pieces in lone + [5, None]:
         raises(TypeError, lambda: stream.through(src=pieces))
     for call in [lambda: graph.feed("src", 5), lambda: graph.feed("src", None)]:
-        assert said_by(call, TypeError).startswith("items are integers in a row, or bytes, and no "), said_by(call, TypeError)
+        assert said_by(call, TypeError).startswith("items are integers in a row, or bytes, and no "), said_by(
+            call, TypeError
+        )
     for pieces in [[1, 2], 5, None]:
         assert "through(src=[items])" in said_by(lambda: stream.through(src=pieces), TypeError)
 
@@ -365,30 +420,51 @@ def texts_are_no_paths():
 
 def copies_have_plants_of_their_own():
     for held in [graph, stream]:
-        for call in [copy.copy, copy.deepcopy, *(lambda it, n=n: pickle.loads(pickle.dumps(it, n)) for n in range(pickle.HIGHEST_PROTOCOL + 1))]:
+        for call in [
+            copy.copy, copy.deepcopy,
+            *(lambda it, n=n: pickle.loads(pickle.dumps(it, n)) for n in range(pickle.HIGHEST_PROTOCOL + 1)),
+        ]:
             own = call(held)
-            assert type(own) is type(held) and own._plant is not held._plant and (own._text, own.path) == (held._text, held.path)
+            assert (
+                type(own) is type(held)
+                and own._plant is not held._plant
+                and (own._text, own.path) == (held._text, held.path)
+            )
     assert graph.close("src") == 0
 
 
 def numpy_items_are_integers():
     """An array whose items stand as those of the source, which has shorts, goes in as it is; the others as numbers, or
     not."""
-    for items in [numpy.array([1, -2], "i2"), numpy.array([0, 1, -2], "i2")[1:], numpy.array([[1, -2], [3, 4]], "i2")[0]]:
+    for items in [
+        numpy.array([1, -2], "i2"), numpy.array([0, 1, -2], "i2")[1:], numpy.array([[1, -2], [3, 4]], "i2")[0],
+    ]:
         makes(lambda: graph.feed("src", items, big_endian=True), "feed", b"src", False, b"\1\0\xfe\xff", [])
-    for items in [numpy.array([1, 7, -2], "i2")[::2], numpy.array([1, -2], ">i2"), numpy.array([1, -2], "i8"), numpy.array([1, -2], "i1"), numpy.array([1, -2], object)]:
+    for items in [
+        numpy.array([1, 7, -2], "i2")[::2], numpy.array([1, -2], ">i2"), numpy.array([1, -2], "i8"),
+        numpy.array([1, -2], "i1"), numpy.array([1, -2], object),
+    ]:
         makes(lambda: graph.feed("src", items), "numbers", b"src", [1, -2])
-    makes(lambda: graph.feed("src", numpy.array([1, 2**63 - 1, 2**63, 2**64 - 1], "u8")), "numbers", b"src", [1, high, high, high])
+    makes(
+        lambda: graph.feed("src", numpy.array([1, 2**63 - 1, 2**63, 2**64 - 1], "u8")), "numbers", b"src",
+        [1, high, high, high],
+    )
     makes(lambda: graph.feed("src", [numpy.uint8(255), numpy.int64(-1)]), "numbers", b"src", [255, -1])
     for kind in ["f8", "f4", "c16", "?", "S1", "U1", "M8[s]"]:
         raises(TypeError, lambda: graph.feed("src", numpy.zeros(2, kind)))
-    for items in [numpy.array([1.0], object), [numpy.float64(1)], [numpy.float32(1)], [numpy.bool_(True)], numpy.array([True], object)]:
+    for items in [
+        numpy.array([1.0], object), [numpy.float64(1)], [numpy.float32(1)], [numpy.bool_(True)],
+        numpy.array([True], object),
+    ]:
         raises(TypeError, lambda: graph.feed("src", items))
     raises(ValueError, lambda: graph.feed("src", numpy.zeros((2, 2), "i2")))
 
 
 def numpy_numbers_are_whole():
-    makes(lambda: graph.feed("src", b"", [(numpy.uint64(3), "k", numpy.int8(-7))]), "feed", b"src", False, b"", [(3, b"k", -7)])
+    makes(
+        lambda: graph.feed("src", b"", [(numpy.uint64(3), "k", numpy.int8(-7))]), "feed", b"src", False, b"",
+        [(3, b"k", -7)],
+    )
     makes(lambda: graph.set("a", numpy.int16(-5), at=numpy.uint8(7)), "set", 7, -5)
     makes(lambda: graph.set("a", numpy.array([1, -2], "i4")), "taps", 2**64 - 1, [1, -2])
     makes(lambda: graph.step("s", numpy.int64(2)), "step", 2)
@@ -401,7 +477,10 @@ def numpy_numbers_are_whole():
 
 def masked_items_are_none():
     """A masked item has no value: the whole array is refused, also where no item of it is masked."""
-    for masked in [numpy.ma.array([1, 2], dtype="i2", mask=[False, True]), numpy.ma.array([1, 2], dtype="i8"), numpy.ma.array([1, 2], dtype="u1", mask=True)]:
+    for masked in [
+        numpy.ma.array([1, 2], dtype="i2", mask=[False, True]), numpy.ma.array([1, 2], dtype="i8"),
+        numpy.ma.array([1, 2], dtype="u1", mask=True),
+    ]:
         for call in [
             lambda: graph.feed("src", masked),
             lambda: stream.feed("src", masked),
@@ -430,8 +509,14 @@ def arrays_are_read():
 def what_is_told_of_blocks_is_read():
     _library._loaded = Telling()
     told = magbelu.Graph("")
-    assert told.setting("a") == (-32768, 32767, [-at for at in range(300)]) and told.setting("b") == (low, high, -3) and told.setting(b"c") is None
-    assert [told.rates(it) for it in "abc"] == [([5, 6], 7, None, 0), ([5, 6], 7, "skips", 9), ([5, 6], 7, "delays", 18)]
+    assert (
+        told.setting("a") == (-32768, 32767, [-at for at in range(300)])
+        and told.setting("b") == (low, high, -3)
+        and told.setting(b"c") is None
+    )
+    assert [told.rates(it) for it in "abc"] == [
+        ([5, 6], 7, None, 0), ([5, 6], 7, "skips", 9), ([5, 6], 7, "delays", 18),
+    ]
     assert told.firings == {"a": 1, "b": 2, "c": 3}
     assert len(told.connections) == 2 and told.rooms == [4096, 2**32]
     for call in [lambda: told.setting("d"), lambda: told.rates("d")]:
@@ -473,7 +558,11 @@ tests = [
     copies_have_plants_of_their_own,
     what_is_told_of_blocks_is_read,
     places_of_faults_are_read,
-    *([arrays_are_read] if numpy is None else [numpy_items_are_integers, numpy_numbers_are_whole, masked_items_are_none, numpy_is_read]),
+    *(
+        [arrays_are_read]
+        if numpy is None
+        else [numpy_items_are_integers, numpy_numbers_are_whole, masked_items_are_none, numpy_is_read]
+    ),
 ]
 for test in tests:
     test()

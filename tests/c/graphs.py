@@ -170,7 +170,10 @@ def generated_graphs_come_to_what_runs_tell():
 def freed_graphs_are_refused():
     with chain("byte") as graph:
         graph.feed("src", [1])
-    for call in [lambda: graph.feed("src", [1]), lambda: graph.settle(), lambda: graph.read("out"), lambda: graph.set("add", 1), lambda: graph.close("src")]:
+    for call in [
+        lambda: graph.feed("src", [1]), lambda: graph.settle(), lambda: graph.read("out"), lambda: graph.set("add", 1),
+        lambda: graph.close("src"),
+    ]:
         refuses(55, "NotOpen", call)
     graph.free()
     graph.free()
@@ -197,7 +200,9 @@ def threads_call_one_graph():
 def raw_items_in_and_out():
     file = CHAIN % ("short", "short", "short")
     assert magbelu.run_items(file, [("src", b"\1\0\2\0")], ["out", ("out", "tags")]) == ([b"\x0b\0\x0c\0", b""], True)
-    assert magbelu.run_items(file, [("src", bytearray(b"\0\1")), ("src", memoryview(b"\0\2"))], ["out"], big_endian=True, room=0) == ([b"\0\x0b\0\x0c"], True)
+    assert magbelu.run_items(
+        file, [("src", bytearray(b"\0\1")), ("src", memoryview(b"\0\2"))], ["out"], big_endian=True, room=0
+    ) == ([b"\0\x0b\0\x0c"], True)
     assert magbelu.run_items(file, [], []) == ([], True)
 
 
@@ -205,7 +210,16 @@ def what_is_wrong_is_refused():
     graph = chain("byte")
     refuses(40, "Syntax", lambda: magbelu.Graph.from_text("x"))
     refuses(40, "Syntax", lambda: magbelu.check(b"\xff"))
-    assert refuses(8, "TooFewPorts", lambda: magbelu.run((CHAIN % (3 * ("byte",))).replace('from = "src", to = "add"', 'from = "add", to = "add"'))).detail == "src"
+    assert (
+        refuses(
+            8,
+            "TooFewPorts",
+            lambda: magbelu.run(
+                (CHAIN % (3 * ("byte",))).replace('from = "src", to = "add"', 'from = "add", to = "add"')
+            ),
+        ).detail
+        == "src"
+    )
     refuses(20, "NoSuchBlock", lambda: graph.feed("none", [1]))
     refuses(21, "NotSource", lambda: graph.feed("out", [1]))
     refuses(22, "NotSink", lambda: graph.read("add"))
@@ -290,7 +304,9 @@ def places_of_faults_are_shown():
         (22, "NotSink", lambda: magbelu.run_items(CHAIN % (3 * ("byte",)), [], ["src"])),
     ]:
         error = refuses(number, name, call)
-        assert error.place == "" and "\n" not in str(error) and error.reason and str(error).endswith(": " + error.reason), error
+        assert (
+            error.place == "" and "\n" not in str(error) and error.reason and str(error).endswith(": " + error.reason)
+        ), error
 
 
 def places_of_faults_are_told():
@@ -325,7 +341,9 @@ def late_settings_tell_what_is_open():
     graph.feed("src", [1, 2, 3, 4])
     graph.settle()
     error = refuses(27, "Late", lambda: graph.set("add", 1, at=2))
-    assert (error.floor, error.detail) == (4, "add") and str(error).endswith("the first item that is open, which is 4"), error
+    assert (error.floor, error.detail) == (4, "add") and str(error).endswith(
+        "the first item that is open, which is 4"
+    ), error
     assert graph.set("add", 1, at=error.floor) == 4
     assert refuses(28, "NoSetting", lambda: graph.set("src", 1)).floor is None
 
@@ -364,8 +382,13 @@ def graphs_are_drawn_as_by_flow():
 def graphs_tell_what_they_are():
     graph = magbelu.Graph.from_file(top / "examples/echo/graph.toml")
     assert graph.blocks[0] == ("src", "vector_source", "source", 0, None, 1, "byte"), graph.blocks
-    assert graph.blocks[2] == ("sum", "add", "work", 2, "byte", 1, "byte") and graph.blocks[4] == ("dry", "vector_sink", "sink", 1, "byte", 0, None)
-    assert [it.name for it in graph.sources] == ["src"] and [(it.name, it.size) for it in graph.sinks] == [("out", 1), ("dry", 1)]
+    assert graph.blocks[2] == ("sum", "add", "work", 2, "byte", 1, "byte") and graph.blocks[4] == (
+        "dry", "vector_sink", "sink", 1, "byte", 0, None,
+    )
+    assert [it.name for it in graph.sources] == ["src"] and [(it.name, it.size) for it in graph.sinks] == [
+        ("out", 1),
+        ("dry", 1),
+    ]
     assert graph.connections[2] == ("late", 0, "sum", 1) and len(graph.connections) == 5, graph.connections
     assert "5 blocks, 5 connections, sources src (byte), sinks out (byte), dry (byte)>" in repr(graph), graph
     # One that changes its type, drops, and has two outputs.
@@ -373,18 +396,32 @@ def graphs_tell_what_they_are():
     { name = "c", kind = "deinterleave", type = "int", ports = 2 }, { name = "d", kind = "null_sink", type = "int" }, { name = "e", kind = "null_sink", type = "int" }]
 connect = [{ from = "a", to = "b" }, { from = "b", to = "c" }, { from = "c", from_port = 1, to = "e" }, { from = "c", to = "d" }]"""
     for held in [magbelu.Graph(text), magbelu.Stream(text)]:
-        assert held.blocks[1:4] == [("b", "convert", "work", 1, "byte", 1, "int"), ("c", "deinterleave", "work", 1, "int", 2, "int"), ("d", "null_sink", "null_sink", 1, "int", 0, None)]
+        assert held.blocks[1:4] == [
+            ("b", "convert", "work", 1, "byte", 1, "int"), ("c", "deinterleave", "work", 1, "int", 2, "int"),
+            ("d", "null_sink", "null_sink", 1, "int", 0, None),
+        ]
         assert held.connections[2:] == [("c", 1, "e", 0), ("c", 0, "d", 0)] and held.sinks == []
         held.free()
         assert "freed" in repr(held) and not held.is_open
         refuses(55, "NotOpen", held.draw)
     empty = magbelu.Graph("")
-    assert empty.blocks == [] and empty.connections == [] and repr(empty) == "<Graph of <graph>: 0 blocks, 0 connections>"
+    assert (
+        empty.blocks == [] and empty.connections == [] and repr(empty) == "<Graph of <graph>: 0 blocks, 0 connections>"
+    )
     # As many blocks as a graph may have, with the longest names.
     ends = [("s%031d" % at, "n%031d" % at) for at in range(128)]
-    rows = ['{ name = "%s", kind = "vector_source", type = "int" }, { name = "%s", kind = "null_sink", type = "int" }' % it for it in ends]
-    wide = magbelu.Stream("block = [%s]\nconnect = [%s]" % (", ".join(rows), ", ".join('{ from = "%s", to = "%s" }' % it for it in ends)))
-    assert len(wide.blocks) == 256 and wide.blocks[255].name == ends[127][1] and wide.connections[127] == (ends[127][0], 0, ends[127][1], 0)
+    rows = [
+        '{ name = "%s", kind = "vector_source", type = "int" }, { name = "%s", kind = "null_sink", type = "int" }' % it
+        for it in ends
+    ]
+    wide = magbelu.Stream(
+        "block = [%s]\nconnect = [%s]" % (", ".join(rows), ", ".join('{ from = "%s", to = "%s" }' % it for it in ends))
+    )
+    assert (
+        len(wide.blocks) == 256
+        and wide.blocks[255].name == ends[127][1]
+        and wide.connections[127] == (ends[127][0], 0, ends[127][1], 0)
+    )
 
 
 def graphs_tell_how_blocks_move():
@@ -397,9 +434,17 @@ connect = [{ from = "src", to = "skip" }, { from = "skip", to = "zeros" }, { fro
     for held in [magbelu.Graph(text), magbelu.Stream(text)]:
         assert held.rooms == [4096, 4096, 4096, 4096, 9000], held.rooms
         assert held.firings == {"src": 6, "skip": 6, "zeros": 6, "slow": 1, "gain": 2, "out": 2}, held.firings
-        assert held.rates("skip") == ([1], 1, "skips", 5) and held.rates("zeros") == ([1], 1, "delays", 4) and held.rates("slow") == ([6], 2, None, 0)
+        assert (
+            held.rates("skip") == ([1], 1, "skips", 5)
+            and held.rates("zeros") == ([1], 1, "delays", 4)
+            and held.rates("slow") == ([6], 2, None, 0)
+        )
         assert held.rates("src").takes == [] and held.rates("out").takes == [1]
-        assert held.setting("slow") == (-32768, 32767, [1, -2, 3]) and held.setting("gain") == (-32768, 32767, -3) and held.setting("zeros") is None
+        assert (
+            held.setting("slow") == (-32768, 32767, [1, -2, 3])
+            and held.setting("gain") == (-32768, 32767, -3)
+            and held.setting("zeros") is None
+        )
         # What is told may be set, and no more.
         for value in held.setting("gain")[:2]:
             held.set("gain", value)
@@ -434,7 +479,9 @@ def builders_build():
     builder.block("code", "map_bb", map=bytes([3, 2, 1]))
     for name in ("out", "dry"):
         builder.block(name, "vector_sink", type="byte")
-    for writer, reader in [("src", "late"), ("src", "sum"), (("late", 0), ("sum", 1)), ("sum", "code"), ("code", "out"), ("src", "dry")]:
+    for writer, reader in [
+        ("src", "late"), ("src", "sum"), (("late", 0), ("sum", 1)), ("sum", "code"), ("code", "out"), ("src", "dry"),
+    ]:
         builder.connect(writer, reader)
     graph = builder.graph()
     graph.feed("src", [1, 1, 0])
@@ -443,7 +490,10 @@ def builders_build():
     assert list(graph.read("out")[0]) == [2, 2, 2] and list(graph.read("dry")[0]) == [1, 1, 0]
     assert builder.stream().blocks == graph.blocks and magbelu.Graph(builder.to_toml()).connections == graph.connections
     before = builder.to_toml()
-    assert refuses(41, "UnknownKey", lambda: builder.block("fir", "fir", type="short", taps=[1], decim=2)).detail == "block 6"
+    assert (
+        refuses(41, "UnknownKey", lambda: builder.block("fir", "fir", type="short", taps=[1], decim=2)).detail
+        == "block 6"
+    )
     for number, name, call in [
         (1, "DuplicateName", lambda: builder.block("src", "abs", type="int")),
         (42, "MissingKey", lambda: builder.block("fir", "fir", type="short")),
@@ -485,7 +535,9 @@ def each_kind_is_built():
         error = refuses(41, "UnknownKey", lambda: magbelu.Builder().block("x", name, no_such_key=1))
         keys = [line.strip().partition(":")[0] for line in page.splitlines()[1:]]
         told = error.place.strip().rpartition("it has: ")[2].split(", ")
-        assert [it for it in told if it not in ("name", "kind", "tags", "multiple", "capacity")] == [it for it in keys if it not in ("rate", "example")], (told, keys)
+        assert [it for it in told if it not in ("name", "kind", "tags", "multiple", "capacity")] == [
+            it for it in keys if it not in ("rate", "example")
+        ], (told, keys)
 
 
 def threads_call_side_by_side():

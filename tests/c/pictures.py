@@ -101,7 +101,10 @@ def items_are_plotted():
     axes = graph_of("", ITEMS, TAGS).plot("out")
     line, *marks = axes.lines
     assert axes.get_title() == "out" and list(line.get_xdata()) == [0, 1, 2, 3] and list(line.get_ydata()) == ITEMS
-    assert [it.get_xdata()[0] for it in marks] == [1, 3] and [it.get_text() for it in axes.texts] == ["burst=7", "end=-1"]
+    assert [it.get_xdata()[0] for it in marks] == [1, 3] and [it.get_text() for it in axes.texts] == [
+        "burst=7",
+        "end=-1",
+    ]
     own = pyplot.subplots()[1]
     assert graph_of("", ITEMS, "").plot("out", 2, 1, axes=own) is own
     assert list(own.lines[0].get_xdata()) == [2] and list(own.lines[0].get_ydata()) == [2] and len(own.lines) == 1
@@ -130,7 +133,9 @@ def items_are_numbered():
     for start, count in [(0, 0), (0, 1), (7, 1), (0, 2), (0, 100), (10**9, 50), (2**32 - 10, 10), (123456, 20_000_000)]:
         axes = plot("out", start, range(count), [], False, None)
         axes.figure.canvas.draw()
-        shown = [it for it in axes.get_xticklabels() if axes.get_xlim()[0] <= it.get_position()[0] <= axes.get_xlim()[1]]
+        shown = [
+            it for it in axes.get_xticklabels() if axes.get_xlim()[0] <= it.get_position()[0] <= axes.get_xlim()[1]
+        ]
         assert shown and all(re.fullmatch("[0-9]+", it.get_text()) for it in shown), (start, count, shown)
         assert axes.xaxis.get_offset_text().get_text() == "", axes.xaxis.get_offset_text()
         boxes = [it.get_window_extent() for it in shown]
@@ -143,10 +148,14 @@ def many_labels_are_counted():
     axes = graph_of("", [1] * 200, "".join("@%d:key=%d/0\n" % (at, at) for at in range(200))).plot("out")
     axes.figure.canvas.draw()
     boxes = [it.get_window_extent() for it in axes.texts]
-    assert not [1 for at, box in enumerate(boxes) for other in boxes[:at] if box.overlaps(other)], "labels cover one another"
+    assert not [
+        1 for at, box in enumerate(boxes) for other in boxes[:at] if box.overlaps(other)
+    ], "labels cover one another"
     assert all(it.x1 <= axes.figure.bbox.x1 for it in boxes) and len(axes.lines) == 201
     *told, last = [it.get_text() for it in axes.texts]
-    assert told == ["key=%d" % at for at in range(len(told))] and last == "%d more" % (200 - len(told)) and len(told) > 20, last
+    assert (
+        told == ["key=%d" % at for at in range(len(told))] and last == "%d more" % (200 - len(told)) and len(told) > 20
+    ), last
 
 
 def spectra_are_plotted():
@@ -157,7 +166,9 @@ def spectra_are_plotted():
     levels = dict(zip(line.get_xdata(), line.get_ydata()))
     assert len(levels) == 129 and max(levels) == 0.5 and abs(levels[0.125] - 40) < 0.1
     # (at 0 is their mean of 128, and the window lets a line touch its neighbours)
-    assert all(level < 10 for place, level in levels.items() if abs(place - 0.125) > 2.5 / 256 and place > 2.5 / 256), levels
+    assert all(
+        level < 10 for place, level in levels.items() if abs(place - 0.125) > 2.5 / 256 and place > 2.5 / 256
+    ), levels
     try:
         graph_of("").plot("out", spectrum=True)
     except ValueError:
@@ -166,7 +177,14 @@ def spectra_are_plotted():
 
 
 tests = [graphs_are_drawn, pictures_are_made]
-tests += [items_are_plotted, labels_cover_no_other, items_are_numbered, many_labels_are_counted, spectra_are_plotted] if pyplot is not None else []
+tests += (
+    [items_are_plotted, labels_cover_no_other, items_are_numbered, many_labels_are_counted, spectra_are_plotted]
+    if pyplot is not None
+    else []
+)
 for test in tests:
     test()
-print("c: %d tests of the pictures of python/magbelu passed%s" % (len(tests), "" if pyplot is not None else ", without matplotlib"))
+print(
+    "c: %d tests of the pictures of python/magbelu passed%s"
+    % (len(tests), "" if pyplot is not None else ", without matplotlib")
+)

@@ -114,7 +114,10 @@ def sources_of_two_rates_are_cut():
     """Whichever of the two ends first."""
     rng = random.Random(65)
     for lengths in [(0, 0), (400, 200), (401, 200), (400, 199), (1000, 50), (30, 900), (0, 90), (399, 1)]:
-        data = {name: array.array("h", [rng.randint(-(2**15), 2**15 - 1) for _ in range(count)]).tobytes() for name, count in zip("ab", lengths)}
+        data = {
+            name: array.array("h", [rng.randint(-(2**15), 2**15 - 1) for _ in range(count)]).tobytes()
+            for name, count in zip("ab", lengths)
+        }
         assert joined(PAIR, data, 3) == whole(PAIR, data), lengths
 
 
@@ -134,7 +137,9 @@ def pieces_are_run_side_by_side():
     finally:
         _slice_runs.Team.run_piece = run_piece
     # A piece has ten times the overlap, which is two iterations of four bytes of `a` and two of `b`.
-    assert [it[1:] for it in sorted(seen, key=lambda it: it[2])] == [([80, 40], 0)] + [([88, 44], at) for at in range(1, 100)], seen[:3]
+    assert [it[1:] for it in sorted(seen, key=lambda it: it[2])] == [([80, 40], 0)] + [
+        ([88, 44], at) for at in range(1, 100)
+    ], seen[:3]
     assert threading.get_ident() not in {it[0] for it in seen}
 
 
@@ -142,13 +147,21 @@ def files_and_arrays(folder):
     a, b = array.array("h", range(1000)), array.array("h", range(500))
     wanted = whole(PAIR, {"a": a.tobytes(), "b": b.tobytes()})
     (folder / "a").write_bytes(a.tobytes())
-    given = in_small_pieces(lambda: magbelu.run_slices(PAIR, {"a": str(folder / "a"), "b": b}, {"out": folder / "out", "side": None}, 2))
-    assert (folder / "out").read_bytes() == wanted["out"] and list(given) == ["side"] and given["side"].tobytes() == wanted["side"]
+    given = in_small_pieces(
+        lambda: magbelu.run_slices(PAIR, {"a": str(folder / "a"), "b": b}, {"out": folder / "out", "side": None}, 2)
+    )
+    assert (
+        (folder / "out").read_bytes() == wanted["out"]
+        and list(given) == ["side"]
+        and given["side"].tobytes() == wanted["side"]
+    )
     # From and to pipes, whose length nobody knows.
     os.mkfifo(folder / "pipe")
     writer = threading.Thread(target=lambda: (folder / "pipe").write_bytes(a.tobytes()))
     writer.start()
-    magbelu.run_slices(PAIR, {"a": folder / "pipe", "b": memoryview(b.tobytes())}, {"out": folder / "out", "side": "/dev/null"}, 2)
+    magbelu.run_slices(
+        PAIR, {"a": folder / "pipe", "b": memoryview(b.tobytes())}, {"out": folder / "out", "side": "/dev/null"}, 2
+    )
     writer.join()
     assert (folder / "out").read_bytes() == wanted["out"]
 
@@ -170,18 +183,30 @@ def faults_leave_a_beginning(folder):
 
     _slice_runs.Team.run_piece = failing
     try:
-        raises(MemoryError, lambda: in_small_pieces(lambda: magbelu.run_slices(PAIR, data, {"out": folder / "out", "side": folder / "side"}, 2)))
+        raises(
+            MemoryError,
+            lambda: in_small_pieces(
+                lambda: magbelu.run_slices(PAIR, data, {"out": folder / "out", "side": folder / "side"}, 2)
+            ),
+        )
     finally:
         _slice_runs.Team.run_piece = run_piece
     wanted = whole(PAIR, data)
-    assert (folder / "out").read_bytes() == wanted["out"][: 2 * 40] and (folder / "side").read_bytes() == wanted["side"][: 2 * 80]
+    assert (folder / "out").read_bytes() == wanted["out"][: 2 * 40] and (folder / "side").read_bytes() == wanted[
+        "side"
+    ][: 2 * 80]
 
 
 def wrong_ends_are_refused(folder):
     chain = CHAIN % (3 * ("short",))
     # What ends within an item is refused when all before it is written.
     (folder / "cut").write_bytes(b"\1\0\2\0\3")
-    assert refuses(53, "CutItem", lambda: magbelu.run_slices(chain, {"src": folder / "cut"}, {"out": folder / "out"})).detail == "src"
+    assert (
+        refuses(
+            53, "CutItem", lambda: magbelu.run_slices(chain, {"src": folder / "cut"}, {"out": folder / "out"})
+        ).detail
+        == "src"
+    )
     assert (folder / "out").read_bytes() == b"\13\0\14\0"
     fed = chain + 'feed = [{ source = "src", items = [1] }]\n'
     assert refuses(64, "NoCut", lambda: magbelu.run_slices(fed, {})).detail == "src"
@@ -191,8 +216,16 @@ def wrong_ends_are_refused(folder):
     refuses(21, "NotSource", lambda: magbelu.run_slices(chain, {"out": b""}))
     refuses(22, "NotSink", lambda: magbelu.run_slices(chain, {}, {"out": None, "add": None}))
     refuses(40, "Syntax", lambda: magbelu.run_slices("x", {}))
-    uneven = PAIR.replace('{ from = "add", to = "out" }', '{ from = "add", to = "out" }, { from = "a", to = "two" }, { from = "b", to = "two", to_port = 1 }, { from = "two", to = "rest" }')
-    uneven = uneven.replace('{ name = "out",', '{ name = "two", kind = "add", type = "short" }, { name = "rest", kind = "vector_sink", type = "short" }, { name = "out",')
+    uneven = PAIR.replace(
+        '{ from = "add", to = "out" }',
+        '{ from = "add", to = "out" }, { from = "a", to = "two" }, { from = "b", to = "two", to_port = 1 }, { from = '
+        '"two", to = "rest" }',
+    )
+    uneven = uneven.replace(
+        '{ name = "out",',
+        '{ name = "two", kind = "add", type = "short" }, { name = "rest", kind = "vector_sink", type = "short" }, { '
+        'name = "out",',
+    )
     assert refuses(63, "NoSlices", lambda: magbelu.run_slices(uneven, {})).detail == "rates"
     for wrong in [0, -1]:
         raises(ValueError, lambda: magbelu.run_slices(chain, {}, jobs=wrong))
@@ -213,7 +246,10 @@ def plans_have_names():
     graph = magbelu.Graph(PAIR)
     wanted = (2, [("a", 2, 4), ("b", 1, 2)], [("out", 1, 2), ("side", 2, 4)], None)
     assert graph.slices() == wanted and graph.slices(tags=True) == wanted and magbelu.Stream(PAIR).slices() == wanted
-    assert graph.slice(0) == (0, [("out", 0, 0), ("side", 0, 0)]) and graph.slice(7) == (5, [("out", 2, 7), ("side", 4, 14)])
+    assert graph.slice(0) == (0, [("out", 0, 0), ("side", 0, 0)]) and graph.slice(7) == (
+        5,
+        [("out", 2, 7), ("side", 4, 14)],
+    )
     for begins in [1, 2**46 + 1, 2**64]:
         refuses(64, "NoCut", lambda: graph.slice(begins))
     raises(ValueError, lambda: graph.slice(-1))
@@ -225,8 +261,8 @@ def plans_have_names():
 
 
 tests = [
-    slices_give_what_runs_give, blocks_that_count_go_on, a_slice_is_a_stream, a_head_ends_what_has_no_end, sources_of_two_rates_are_cut,
-    pieces_are_run_side_by_side, plans_have_names,
+    slices_give_what_runs_give, blocks_that_count_go_on, a_slice_is_a_stream, a_head_ends_what_has_no_end,
+    sources_of_two_rates_are_cut, pieces_are_run_side_by_side, plans_have_names,
 ]
 for test in tests:
     test()

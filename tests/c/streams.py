@@ -180,7 +180,10 @@ def streams_are_tagged_set_and_refused():
     refuses(24, "ItemRange", lambda: stream.feed("src", [2**15]))
     assert stream.close("src") == 100000 and stream.settle() and stream.need("out").what == "done"
     stream.free()
-    for call in [lambda: stream.feed("src", [1]), lambda: stream.settle(), lambda: stream.drain("out"), lambda: stream.need("src"), lambda: stream.through(src=[])]:
+    for call in [
+        lambda: stream.feed("src", [1]), lambda: stream.settle(), lambda: stream.drain("out"),
+        lambda: stream.need("src"), lambda: stream.through(src=[]),
+    ]:
         refuses(55, "NotOpen", call)
     refuses(40, "Syntax", lambda: magbelu.Stream("x"))
 
@@ -209,7 +212,10 @@ def streams_drain_into_arrays():
     count, tags = stream.drain_into("out", memoryview(room)[1:1001])
     assert count == 1000 and room.tolist() == [-1] + list(range(10, 1010)) + [-1] * 1999
     assert [it[:3] for it in tags] == [(at, "a_key_of_16_bytes"[:16], at) for at in range(1000)]
-    for wrong in [array.array("i", [0]), array.array("B", [0]), bytes(2), memoryview(room)[::2], memoryview(room).toreadonly(), [0, 0]]:
+    for wrong in [
+        array.array("i", [0]), array.array("B", [0]), bytes(2), memoryview(room)[::2], memoryview(room).toreadonly(),
+        [0, 0],
+    ]:
         raises(TypeError, lambda: stream.drain_into("out", wrong))
     assert stream.drain_into("out", room[:0]) == (0, [])
     count, tags = stream.drain_into("out", room)

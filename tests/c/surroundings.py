@@ -88,12 +88,22 @@ def ports_are_those_of_a_file():
         file.write_text(GRAPH % "vector_sink")
         ends.write_text(GRAPH % "null_sink")
         os.mkfifo(pipe)
-        assert has_ports(file) and has_port(str(file), "inputs", 0) and not has_port(file, "inputs", 1) and type_of(file, "outputs", 0) == "short"
+        assert (
+            has_ports(file)
+            and has_port(str(file), "inputs", 0)
+            and not has_port(file, "inputs", 1)
+            and type_of(file, "outputs", 0) == "short"
+        )
         # A block of GNU Radio has an output.
         assert not has_ports(ends) and has_port(ends, "inputs", 0)
         # (the last but one is a file that not even root can read)
-        for path in ["", here, here / "none.toml", file / "none.toml", pipe, "/dev/null", str(file) + "\0", "\ud800", "/proc/self/mem", 1000 * "long"]:
-            assert not has_ports(path) and not has_port(path, "inputs", 0) and type_of(path, "outputs", 0) == "byte", path
+        for path in [
+            "", here, here / "none.toml", file / "none.toml", pipe, "/dev/null", str(file) + "\0", "\ud800",
+            "/proc/self/mem", 1000 * "long",
+        ]:
+            assert (
+                not has_ports(path) and not has_port(path, "inputs", 0) and type_of(path, "outputs", 0) == "byte"
+            ), path
     signal.alarm(0)
 
 

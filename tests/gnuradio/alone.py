@@ -47,7 +47,9 @@ def graphs_have_outputs() -> None:
     """A graph without an input is a block, but none without an output: GNU Radio would end that with the first of its
     inputs."""
     equal([len(it) for it in Flowgraph(text=TEXT).ports], [1, 1])
-    equal([len(it) for it in Flowgraph(text='[[block]]\nname = "out"\nkind = "vector_sink"\ntype = "byte"').ports], [0, 1])
+    equal(
+        [len(it) for it in Flowgraph(text='[[block]]\nname = "out"\nkind = "vector_sink"\ntype = "byte"').ports], [0, 1]
+    )
     for wrong in (TEXT.replace("vector_sink", "null_sink"), ""):
         try:
             Flowgraph(text=wrong)
@@ -60,7 +62,10 @@ def graphs_have_outputs() -> None:
 def files_are_named() -> None:
     """A block without a file, of a text in place of its path, and a copy of one, are refused by what is wrong with
     them."""
-    for call, part in ((Flowgraph, "graph file"), (lambda: copy.copy(Flowgraph(text=TEXT)), "copied"), (lambda: copy.deepcopy(Flowgraph(text=TEXT)), "copied")):
+    for call, part in (
+        (Flowgraph, "graph file"), (lambda: copy.copy(Flowgraph(text=TEXT)), "copied"),
+        (lambda: copy.deepcopy(Flowgraph(text=TEXT)), "copied"),
+    ):
         try:
             call()
         except TypeError as error:

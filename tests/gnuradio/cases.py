@@ -77,12 +77,15 @@ def without_sources(line: str) -> str:
 def beside_blocks() -> None:
     """Kinds give what GNU Radio's own blocks give, items and tags."""
     text = chain(
-        "short", '"sum", kind = "add_const", value = 12345', '"product", kind = "multiply_const", value = -3', '"few", kind = "keep_one_in_n", n = 4',
-        '"many", kind = "repeat", n = 3', '"total", kind = "integrate", n = 2',
+        "short", '"sum", kind = "add_const", value = 12345', '"product", kind = "multiply_const", value = -3',
+        '"few", kind = "keep_one_in_n", n = 4', '"many", kind = "repeat", n = 3', '"total", kind = "integrate", n = 2',
     )
     items = [(it * 7919 + 31) % 65536 - 32768 for it in range(50000)]
     tags = [(at, "mark", at * at - 10**9) for at in range(0, 50000, 320)]
-    own = [blocks.add_const_ss(12345), blocks.multiply_const_ss(-3), blocks.keep_one_in_n(2, 4), blocks.repeat(2, 3), blocks.integrate_ss(2)]
+    own = [
+        blocks.add_const_ss(12345), blocks.multiply_const_ss(-3), blocks.keep_one_in_n(2, 4), blocks.repeat(2, 3),
+        blocks.integrate_ss(2),
+    ]
     top, wanted = gr.top_block(), blocks.vector_sink_s()
     top.connect(source("short", items, [tag(*it) for it in tags]), *own, wanted)
     top.run()
@@ -169,7 +172,10 @@ def stalls() -> None:
 
 def refused() -> None:
     """What is refused is an exception with a number, a name and a text."""
-    fault = refuses(44, "UnknownKind", lambda: Flowgraph(text=chain("byte", '"add", kind = "add_comst", value = 10'), path="here.toml"))
+    fault = refuses(
+        44, "UnknownKind",
+        lambda: Flowgraph(text=chain("byte", '"add", kind = "add_comst", value = 10'), path="here.toml"),
+    )
     equal("here.toml:1:" in str(fault) and "`add_const`" in str(fault), True, str(fault))
     try:
         Flowgraph("no/such/graph.toml")
@@ -188,10 +194,15 @@ def refused() -> None:
 def inputs_lack() -> None:
     """Where nothing is connected to an input, GNU Radio says which, and goes on naming its own blocks where one of
     these lacks an input."""
-    rows = ['{ name = "%s", kind = "vector_source", type = "byte" }' % it for it in ("left", "right")] + ['{ name = "sum", kind = "add", type = "byte" }']
+    rows = ['{ name = "%s", kind = "vector_source", type = "byte" }' % it for it in ("left", "right")] + [
+        '{ name = "sum", kind = "add", type = "byte" }'
+    ]
     rows += ['{ name = "out", kind = "vector_sink", type = "byte" }']
     ends = '{ from = "left", to = "sum" }, { from = "right", to = "sum", to_port = 1 }, { from = "sum", to = "out" }'
-    graph, top, sink = Flowgraph(text="block = [%s]\nconnect = [%s]" % (", ".join(rows), ends), path="here.toml"), gr.top_block(), blocks.vector_sink_b()
+    graph, top, sink = (
+        Flowgraph(text="block = [%s]\nconnect = [%s]" % (", ".join(rows), ends), path="here.toml"), gr.top_block(),
+        blocks.vector_sink_b(),
+    )
     top.connect(source("byte", [1, 2]), (graph, 0))
     top.connect(graph, sink)
     for call in (top.start, top.run):
@@ -218,12 +229,21 @@ def tags() -> None:
     """Tags come in and go out, at the offsets that the graph gives them and with the name of their source; those that
     it cannot have are counted."""
     text = (TOP / "examples" / "echo" / "graph.toml").read_text().partition("feed = ")[0]
-    others = [tag(0, "mark", pmt.from_double(1.5)), tag(0, "two words", 1), tag(0, "seventeen_letters", 1), tag(3, "mark", pmt.PMT_T)]
+    others = [
+        tag(0, "mark", pmt.from_double(1.5)), tag(0, "two words", 1), tag(0, "seventeen_letters", 1),
+        tag(3, "mark", pmt.PMT_T),
+    ]
     kept = [tag(1, "mark", 7), tag(1, "a.b-c", -(2**63)), tag(3, "sixteen__letters", 2**63 - 1)]
     graph = Flowgraph(text=text)
     wet, dry = ran(graph, [source("byte", [10, 20, 30, 40], kept + others)])
     equal(tags_of(dry), [(1, "a.b-c", -(2**63)), (1, "mark", 7), (3, "sixteen__letters", 2**63 - 1)])
-    equal(tags_of(wet), [(1, "a.b-c", -(2**63)), (1, "mark", 7), (3, "a.b-c", -(2**63)), (3, "mark", 7), (3, "sixteen__letters", 2**63 - 1)])
+    equal(
+        tags_of(wet),
+        [
+            (1, "a.b-c", -(2**63)), (1, "mark", 7), (3, "a.b-c", -(2**63)), (3, "mark", 7),
+            (3, "sixteen__letters", 2**63 - 1),
+        ],
+    )
     equal({pmt.symbol_to_string(it.srcid) for it in dry.tags()}, {"src"})
     equal((list(wet.data()), graph.tags_left_out), ([10, 20, 40, 60], 4))
 
@@ -231,10 +251,16 @@ def tags() -> None:
 def tag_refused() -> None:
     """Where others are refused, one of them ends the block with a fault."""
     graph = Flowgraph(text=ADD_TEN, other_tags="refuse")
-    (sink,) = ran(graph, [source("byte", [1] * 200000, [tag(5, "mark", 1), tag(150000, "mark", pmt.from_double(1.5))], repeat=True)])
+    (sink,) = ran(
+        graph,
+        [source("byte", [1] * 200000, [tag(5, "mark", 1), tag(150000, "mark", pmt.from_double(1.5))], repeat=True)],
+    )
     fault = graph.fault
     assert isinstance(fault, magbelu.Refused)
-    equal((graph.outcome, fault.number, fault.name, fault.detail), ("failed", 58, "BadKey", "src: the tag mark=1.5 at item 150000"))
+    equal(
+        (graph.outcome, fault.number, fault.name, fault.detail),
+        ("failed", 58, "BadKey", "src: the tag mark=1.5 at item 150000"),
+    )
     equal((set(sink.data()), tags_of(sink)), ({11}, [(5, "mark", 1)]))
 
 
@@ -251,7 +277,10 @@ def settings() -> None:
     top.stop()
     waited(top)
     items = numpy.array(sink.data())
-    equal([set(it.tolist()) for it in numpy.split(items, [3000, now, far])], [{11}, {101}, {51}, {61}], "the pieces between %s" % [3000, now, far])
+    equal(
+        [set(it.tolist()) for it in numpy.split(items, [3000, now, far])], [{11}, {101}, {51}, {61}],
+        "the pieces between %s" % [3000, now, far],
+    )
 
 
 def taps() -> None:
@@ -274,7 +303,10 @@ def fed_by_file() -> None:
 
 def memory() -> None:
     """More items need no more memory, and those that come at once are not all fed where each gives a thousand."""
-    for text, few, many in ((ADD_TEN, 3000000, 30000000), (chain("byte", '"many", kind = "repeat", n = 1000'), 100, 50000)):
+    for text, few, many in (
+        (ADD_TEN, 3000000, 30000000),
+        (chain("byte", '"many", kind = "repeat", n = 1000'), 100, 50000),
+    ):
         held = []
         for count in (few, many):
             graph, top = Flowgraph(text=text), gr.top_block()
@@ -294,7 +326,10 @@ def companion() -> None:
         for name in ("drawing.grc", "graph.toml"):
             shutil.copy(here / name, room)
         env = {**os.environ, "HOME": room, "GRC_BLOCKS_PATH": str(TOP / "share" / "gnuradio" / "grc" / "blocks")}
-        built = subprocess.run(["grcc", "-o", room, "drawing.grc"], env=env, cwd=room, text=True, stdout=subprocess.PIPE, stderr=subprocess.STDOUT)
+        built = subprocess.run(
+            ["grcc", "-o", room, "drawing.grc"], env=env, cwd=room, text=True, stdout=subprocess.PIPE,
+            stderr=subprocess.STDOUT,
+        )
         os.chdir(room)
         sys.path.insert(0, room)
         assert pathlib.Path("drawing.py").exists(), built.stdout

@@ -19,7 +19,9 @@ from gnuradio import gr
 TOP = pathlib.Path(__file__).resolve().parents[2]
 PAGE = TOP / "docs" / "user" / "COVERAGE.md"
 # Modules of tools, and the one of the classes that blocks are made of.
-TOOLS = frozenset(("bindtool", "blocktool", "eng_arg", "eng_notation", "eng_option", "gr", "gr_unittest", "grc", "modtool"))
+TOOLS = frozenset(
+    ("bindtool", "blocktool", "eng_arg", "eng_notation", "eng_option", "gr", "gr_unittest", "grc", "modtool")
+)
 BASES = frozenset(("basic_block", "block", "sync_block", "hier_block2"))
 FLOATS = re.compile(r"_[bsivpdz]*[fc][bsivpfcdz]*$")
 # What a line says: that a kind of its own stands for the block, that others do, that nothing does, or that it is not
@@ -42,7 +44,11 @@ def installed(others: set[str]) -> Iterator[tuple[str, list[str]]]:
         if name in TOOLS | others or name.startswith(("_", "plot_", "pyqt_")):
             continue
         module = importlib.import_module("gnuradio." + name)
-        found = [key for key, it in vars(module).items() if inspect.isclass(it) and BASES & {base.__name__ for base in it.__mro__}]
+        found = [
+            key
+            for key, it in vars(module).items()
+            if inspect.isclass(it) and BASES & {base.__name__ for base in it.__mro__}
+        ]
         if found:
             yield name, sorted(found)
 
@@ -69,7 +75,9 @@ def tables(page: str) -> dict[str, list[Line]]:
 def counts(lines: list[Line]) -> str:
     """The sentence that counts the blocks of all lines."""
     of = {says: sum(len(it.names) for it in lines if it.says == says) for says in SAYS}
-    return "Of %d such blocks %d can be had: %d by a kind of their own, and %d by others." % (of["kind"] + of["by"] + of["no"], of["kind"] + of["by"], of["kind"], of["by"])
+    return "Of %d such blocks %d can be had: %d by a kind of their own, and %d by others." % (
+        of["kind"] + of["by"] + of["no"], of["kind"] + of["by"], of["kind"], of["by"],
+    )
 
 
 def faults() -> Iterator[str]:

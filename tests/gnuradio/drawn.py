@@ -75,10 +75,21 @@ class Pen:
     def add(self) -> None:
         """A block of some kind, where outputs of its type are there."""
         chance, type = self.chance, self.chance.choice(TYPES)
-        kind = chance.choice([*SINGLE, *BYTES, *FILTERS, "many", "sample_and_hold", "convert", "interleave", "deinterleave", "stream_mux", "viterbi"])
+        kind = chance.choice(
+            [
+                *SINGLE, *BYTES, *FILTERS, "many", "sample_and_hold", "convert", "interleave", "deinterleave",
+                "stream_mux", "viterbi",
+            ]
+        )
         if kind in BYTES or kind in FILTERS:
             type = "byte" if kind in BYTES else chance.choice(["short", "int"])
-        ports = chance.randint(1, 3) if kind in ("many", "interleave", "stream_mux") else 2 if kind == "sample_and_hold" else 1
+        ports = (
+            chance.randint(1, 3)
+            if kind in ("many", "interleave", "stream_mux")
+            else 2
+            if kind == "sample_and_hold"
+            else 1
+        )
         inputs = self.taken(type, ports)
         if not inputs:
             return
@@ -101,7 +112,10 @@ class Pen:
             self.block(kind, inputs, [type], 4 * ports, type=type, lengths=[chance.randint(1, 4) for _ in inputs])
         else:
             keys = {**SINGLE, **BYTES, **FILTERS}[kind](self, type)
-            gain = max(keys.get("n", 1) if kind == "repeat" else 1, keys.get("interpolation", 1), keys.get("k", 1) if kind == "unpack_k_bits" else 1, 5 if kind == "crc_append" else 1)
+            gain = max(
+                keys.get("n", 1) if kind == "repeat" else 1, keys.get("interpolation", 1),
+                keys.get("k", 1) if kind == "unpack_k_bits" else 1, 5 if kind == "crc_append" else 1,
+            )
             self.block(kind, inputs, [type], gain, **({} if kind in BYTES else {"type": type}), **keys)
 
 
@@ -113,7 +127,9 @@ def register(pen: Pen, type: str) -> dict[str, Any]:
 def checksum(pen: Pen, type: str) -> dict[str, Any]:
     bits = pen.chance.randint(8, 32)
     numbers = {key: pen.chance.randint(0, 2**bits - 1) for key in ("polynomial", "init", "final_xor")}
-    return {"order": pen.chance.choice(["msb_first", "lsb_first"]), "bits": bits, **numbers, "n": pen.chance.randint(1, 20)}
+    return {
+        "order": pen.chance.choice(["msb_first", "lsb_first"]), "bits": bits, **numbers, "n": pen.chance.randint(1, 20),
+    }
 
 
 def machine(pen: Pen, type: str) -> dict[str, Any]:
@@ -180,8 +196,12 @@ BYTES: dict[str, Keys] = {
     "state_machine": machine,
 }
 FILTERS: dict[str, Keys] = {
-    "fir": lambda pen, type: {"taps": taps(pen), "decimation": pen.chance.randint(1, 4), "shift": pen.chance.randint(0, 31)},
-    "interp_fir": lambda pen, type: {"taps": taps(pen), "interpolation": pen.chance.randint(1, 4), "shift": pen.chance.randint(0, 31)},
+    "fir": lambda pen, type: {
+        "taps": taps(pen), "decimation": pen.chance.randint(1, 4), "shift": pen.chance.randint(0, 31),
+    },
+    "interp_fir": lambda pen, type: {
+        "taps": taps(pen), "interpolation": pen.chance.randint(1, 4), "shift": pen.chance.randint(0, 31),
+    },
 }
 
 
@@ -193,7 +213,10 @@ def draw(seed: int) -> Drawn:
         pen.block("vector_source", [], [type], type=type)
         count = pen.chance.choice([0, 5, 300, 9000])
         places = sorted(pen.chance.randrange(count) for _ in range(pen.chance.randint(0, 9) if count else 0))
-        tags = [(at, pen.chance.choice(["burst", "mark", "a.b-c_9"]), pen.chance.randint(-(2**63), 2**63 - 1)) for at in places]
+        tags = [
+            (at, pen.chance.choice(["burst", "mark", "a.b-c_9"]), pen.chance.randint(-(2**63), 2**63 - 1))
+            for at in places
+        ]
         feeds[pen.outputs[-1][0]] = Fed(type, [pen.item(type) for _ in range(count)], tags)
     for _ in range(pen.chance.randint(1, 12)):
         pen.add()
@@ -201,4 +224,6 @@ def draw(seed: int) -> Drawn:
         if (output[0], output[1]) not in pen.read:
             sinks["vector_sink%d" % len(pen.blocks)] = output[2]
             pen.block("vector_sink", [output], [], type=output[2])
-    return Drawn("block = [\n%s\n]\nconnect = [\n%s\n]" % (",\n".join(pen.blocks), ",\n".join(pen.connects)), feeds, sinks)
+    return Drawn(
+        "block = [\n%s\n]\nconnect = [\n%s\n]" % (",\n".join(pen.blocks), ",\n".join(pen.connects)), feeds, sinks
+    )

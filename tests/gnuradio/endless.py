@@ -9,7 +9,9 @@ from typing import Any
 from gnuradio import analog, blocks, digital, gr
 
 from joining import SINKS, waited
-from own import LETTERS, RANGES, SIZES, TRIED, Given, Graph, Kind, Port, Stream, Trial, each, row, try_named, typed, written
+from own import (
+    LETTERS, RANGES, SIZES, TRIED, Given, Graph, Kind, Port, Stream, Trial, each, row, try_named, typed, written,
+)
 
 
 def first_of(source: Any, type: str, count: int) -> list[int]:
@@ -50,7 +52,9 @@ def shift_registers() -> None:
         mask = chance.choice([0, 2 ** (degree - 1) | chance.getrandbits(degree - 1)])
         own = digital.glfsr_source_b(degree, again, mask, seed)
         whole = 2**degree - 1
-        kinds = [Kind("additive_scrambler", {"bits": degree, "mask": own.mask(), "init": before(degree, own.mask(), seed)})]
+        kinds = [
+            Kind("additive_scrambler", {"bits": degree, "mask": own.mask(), "init": before(degree, own.mask(), seed)})
+        ]
         kinds += [] if again else [Kind("head", {"type": "byte", "n": whole})]
         gives(own, row(kinds, clock("byte", count), Port("byte")), clock("byte", count), "byte", count)
 
@@ -83,12 +87,20 @@ def waves() -> None:
 
     def trial(chance: random.Random) -> None:
         type, period, shift = typed(chance), 2 ** chance.randint(0, 8), chance.randint(0, 40)
-        wave = chance.choice([analog.GR_CONST_WAVE, analog.GR_SIN_WAVE, analog.GR_COS_WAVE, analog.GR_SQR_WAVE, analog.GR_TRI_WAVE, analog.GR_SAW_WAVE])
+        wave = chance.choice(
+            [
+                analog.GR_CONST_WAVE, analog.GR_SIN_WAVE, analog.GR_COS_WAVE, analog.GR_SQR_WAVE, analog.GR_TRI_WAVE,
+                analog.GR_SAW_WAVE,
+            ]
+        )
         own = getattr(analog, "sig_source_" + LETTERS[type])(period, wave, 1, chance.randint(1, 100), 100 + shift)
         count = 5 * period
         values = first_of(own, type, period)
         own = getattr(analog, "sig_source_" + LETTERS[type])(period, wave, 1, own.amplitude(), own.offset())
-        gives(own, row([Kind("pattern", {"type": type, "values": values})], clock(type, count), Port(type)), clock(type, count), type, count)
+        gives(
+            own, row([Kind("pattern", {"type": type, "values": values})], clock(type, count), Port(type)),
+            clock(type, count), type, count,
+        )
 
     each(trial, 12)
 
@@ -101,11 +113,16 @@ def uniform() -> None:
         type, bits = typed(chance), chance.randint(1, 6)
         least = chance.randint(RANGES[type][0] // 2, RANGES[type][1] // 2)
         numbers = range(least, least + 2**bits)
-        drawn = first_of(getattr(analog, "random_uniform_source_" + LETTERS[type])(least, numbers.stop, 1), type, 10_000)
+        drawn = first_of(
+            getattr(analog, "random_uniform_source_" + LETTERS[type])(least, numbers.stop, 1), type, 10_000
+        )
         assert set(drawn) == set(numbers), "GNU Radio draws others"
         # (each of the lowest bits once, below bits that do not count)
         fed = Stream(type, [chance.randint(*RANGES[type]) & -(2**bits) | at for at in range(2**bits)])
-        kinds = {"low": Kind("and_const", {"type": type, "value": 2**bits - 1}), "it": Kind("add_const", {"type": type, "value": least})}
+        kinds = {
+            "low": Kind("and_const", {"type": type, "value": 2**bits - 1}),
+            "it": Kind("add_const", {"type": type, "value": least}),
+        }
         graph = written(kinds, ["in0 low", "low it", "it out0"], [fed], [Port(type)])
         TRIED.append(Trial(graph, [fed], [Given(list(numbers), [])], False))
 
@@ -117,11 +134,20 @@ def noise() -> None:
     /dev/urandom."""
 
     def trial(chance: random.Random) -> None:
-        type, sort = chance.choice(["short", "int"]), chance.choice([analog.GR_UNIFORM, analog.GR_GAUSSIAN, analog.GR_LAPLACIAN])
-        own = getattr(analog, "fastnoise_source_" + LETTERS[type])(sort, chance.randint(1, 5000), chance.getrandbits(30), 256)
+        type, sort = chance.choice(["short", "int"]), chance.choice(
+            [analog.GR_UNIFORM, analog.GR_GAUSSIAN, analog.GR_LAPLACIAN]
+        )
+        own = getattr(analog, "fastnoise_source_" + LETTERS[type])(
+            sort, chance.randint(1, 5000), chance.getrandbits(30), 256
+        )
         samples, fed = list(own.samples()), Stream("byte", list(range(256)))
         assert set(first_of(own, type, 10_000)) == set(samples), "GNU Radio draws others"
-        TRIED.append(Trial(row([Kind("table", {"to": type, "values": samples})], fed, Port(type)), [fed], [Given(samples, [])], False))
+        TRIED.append(
+            Trial(
+                row([Kind("table", {"to": type, "values": samples})], fed, Port(type)), [fed], [Given(samples, [])],
+                False,
+            )
+        )
 
     each(trial)
 

@@ -73,4 +73,7 @@ def equal(found: Any, wanted: Any, what: Optional[str] = None) -> None:
     """That both are the same."""
     if found != wanted:
         texts = [repr(it) for it in (wanted, found)]
-        raise AssertionError("%s: wanted %s, and there came %s" % (what or "it", *(it if len(it) < 400 else it[:400] + " .." for it in texts)))
+        raise AssertionError(
+            "%s: wanted %s, and there came %s"
+            % (what or "it", *(it if len(it) < 400 else it[:400] + " .." for it in texts))
+        )

@@ -58,11 +58,19 @@ def sequence() -> Any:
 def sent(text: Sequence[int]) -> list[int]:
     """The bits of frames of these lines."""
     top, sink = gr.top_block(), blocks.vector_sink_b()
-    lines = chain(top, blocks.vector_source_b(text), blocks.keep_m_in_n(BYTE, 27, 28, 0), blocks.stream_to_tagged_stream(BYTE, 1, 27, "line"))
+    lines = chain(
+        top, blocks.vector_source_b(text), blocks.keep_m_in_n(BYTE, 27, 28, 0),
+        blocks.stream_to_tagged_stream(BYTE, 1, 27, "line"),
+    )
     bits = chain(top, lines, digital.crc32_bb(False, "line"), blocks.unpack_k_bits_bb(8))
     ended = into(top, blocks.stream_mux(BYTE, [248, 7]), bits, blocks.null_source(BYTE))
-    coded = chain(top, ended, trellis.encoder_bb(code(), 0), blocks.unpack_k_bits_bb(2), blocks.blockinterleaver_bb(ORDER, True, False), sequence())
-    top.connect(into(top, blocks.stream_mux(BYTE, [64, 510]), blocks.vector_source_b(list(map(int, CODE)), True), coded), sink)
+    coded = chain(
+        top, ended, trellis.encoder_bb(code(), 0), blocks.unpack_k_bits_bb(2),
+        blocks.blockinterleaver_bb(ORDER, True, False), sequence(),
+    )
+    top.connect(
+        into(top, blocks.stream_mux(BYTE, [64, 510]), blocks.vector_source_b(list(map(int, CODE)), True), coded), sink
+    )
     top.run()
     return list(sink.data())
 
@@ -96,14 +104,22 @@ def levels(top: gr.top_block, iq: Sequence[int]) -> Any:
 def right_lines(top: gr.top_block, soft: Any) -> Any:
     """The text of the frames whose checksum is right."""
     frames = chain(top, soft, blocks.skiphead(INT, 224), blocks.keep_m_in_n(INT, 510, 574, 0), blocks.int_to_float())
-    signs = chain(top, blocks.null_source(BYTE), sequence(), blocks.char_to_float(), blocks.multiply_const_ff(-2), blocks.add_const_ff(1))
+    signs = chain(
+        top, blocks.null_source(BYTE), sequence(), blocks.char_to_float(), blocks.multiply_const_ff(-2),
+        blocks.add_const_ff(1),
+    )
     clear = into(top, blocks.multiply_ff(), frames, signs)
     pair = chain(top, clear, blocks.blockinterleaver_ff(ORDER, True), blocks.deinterleave(gr.sizeof_float))
     metrics = blocks.interleave(gr.sizeof_float)
     for port, (first, second) in enumerate(((1, 1), (1, -1), (-1, 1), (-1, -1))):
-        levels_of_step = [chain(top, (pair, at), blocks.multiply_const_ff(sign)) for at, sign in enumerate((first, second))]
+        levels_of_step = [
+            chain(top, (pair, at), blocks.multiply_const_ff(sign)) for at, sign in enumerate((first, second))
+        ]
         top.connect(into(top, blocks.add_ff(), *levels_of_step), (metrics, port))
-    packed = (blocks.keep_m_in_n(BYTE, 248, 255, 0), blocks.pack_k_bits_bb(8), blocks.stream_to_tagged_stream(BYTE, 1, 31, "line"))
+    packed = (
+        blocks.keep_m_in_n(BYTE, 248, 255, 0), blocks.pack_k_bits_bb(8),
+        blocks.stream_to_tagged_stream(BYTE, 1, 31, "line"),
+    )
     return chain(top, metrics, trellis.viterbi_b(code(), 255, 0, 0), *packed, digital.crc32_bb(True, "line"))
 
 
@@ -111,7 +127,9 @@ def received(iq: Sequence[int]) -> tuple[list[int], list[int]]:
     """The bits of a recording with their marks, and the text of its right lines."""
     top, bits, lines = gr.top_block(), blocks.vector_sink_b(), blocks.vector_sink_b()
     soft = levels(top, iq)
-    chain(top, soft, blocks.int_to_float(), digital.binary_slicer_fb(), digital.correlate_access_code_bb(CODE, 12), bits)
+    chain(
+        top, soft, blocks.int_to_float(), digital.binary_slicer_fb(), digital.correlate_access_code_bb(CODE, 12), bits
+    )
     chain(top, right_lines(top, soft), lines)
     top.run()
     return list(bits.data()), list(lines.data())
@@ -123,7 +141,14 @@ def run(start: Sequence[str], graph: str, source: str, items: bytes, sinks: Sequ
         folder = pathlib.Path(room)
         (folder / source).write_bytes(items)
         outputs = [word for sink in sinks for word in ("-o", "%s=%s/%s" % (sink, room, sink))]
-        subprocess.run([*start, "run", "--quiet", "--one-thread", "-i", "%s=%s/%s" % (source, room, source), *outputs, str(EXAMPLE / graph)], check=True, stdout=subprocess.DEVNULL)
+        subprocess.run(
+            [
+                *start, "run", "--quiet", "--one-thread", "-i", "%s=%s/%s" % (source, room, source), *outputs,
+                str(EXAMPLE / graph),
+            ],
+            check=True,
+            stdout=subprocess.DEVNULL,
+        )
         return [(folder / sink).read_bytes() for sink in sinks]
 
 
@@ -136,7 +161,10 @@ def main(start: Sequence[str]) -> None:
     iq = recording(own_sent, RATIO, 1).tobytes()
     own_bits, own_lines = run(start, "receiver.toml", "iq", iq, ["bits", "lines"])
     bits, lines = received(list(iq))
-    assert bits == list(own_bits), "other bits are received: %d of %d" % (sum(one != other for one, other in zip(bits, own_bits)), len(own_bits))
+    assert bits == list(own_bits), "other bits are received: %d of %d" % (
+        sum(one != other for one, other in zip(bits, own_bits)),
+        len(own_bits),
+    )
     frames = [own_lines[at : at + 29] for at in range(0, len(own_lines), 29)]
     right = b"".join(it[1:28] for it in frames if it[:1] == b"+")
     assert 0 < len(right) < len(text) and bytes(lines) == right, (own_lines, bytes(lines))

@@ -89,7 +89,10 @@ def in_gnu_radio(block: Any, inputs: Sequence[Stream], outputs: Sequence[Port]) 
         top.connect((block, number), sinks[-1])
     top.start()
     waited(top)
-    return [Given(list(it.data()), [(at * out.vector, key, value) for at, key, value in tags_of(it)]) for out, it in zip(outputs, sinks)]
+    return [
+        Given(list(it.data()), [(at * out.vector, key, value) for at, key, value in tags_of(it)])
+        for out, it in zip(outputs, sinks)
+    ]
 
 
 def in_flow(flow: Sequence[str], trials: Sequence[Trial]) -> list[list[Given]]:
@@ -99,9 +102,16 @@ def in_flow(flow: Sequence[str], trials: Sequence[Trial]) -> list[list[Given]]:
     for number, (graph, inputs, _, _) in enumerate(trials):
         whole.blocks += [Block("%d.%s" % (number, it.name), it.kind, it.settings) for it in graph.blocks]
         for it in graph.connections:
-            whole.connections.append(Connection("%d.%s" % (number, it.source), it.source_port, "%d.%s" % (number, it.sink), it.sink_port))
+            whole.connections.append(
+                Connection("%d.%s" % (number, it.source), it.source_port, "%d.%s" % (number, it.sink), it.sink_port)
+            )
         for port, fed in enumerate(inputs):
-            whole.feeds.append(Feed("%d.in%d" % (number, port), fed.items, [(at * fed.vector, key, value) for at, key, value in fed.tags]))
+            whole.feeds.append(
+                Feed(
+                    "%d.in%d" % (number, port), fed.items,
+                    [(at * fed.vector, key, value) for at, key, value in fed.tags],
+                )
+            )
     with tempfile.NamedTemporaryFile("w", suffix=".toml") as file:
         file.write(whole.toml([]))
         file.flush()
@@ -109,7 +119,10 @@ def in_flow(flow: Sequence[str], trials: Sequence[Trial]) -> list[list[Given]]:
     lines = [it.split() for it in answer.stdout.splitlines()]
     assert lines and lines[-1] in (["done"], ["stalled"]), answer.stdout + answer.stderr
     sinks = {it[1]: it[3:] for it in lines if it[0] == "sink"}
-    return [[given(sinks["%d.out%d" % (number, port)]) for port in range(len(it.wanted))] for number, it in enumerate(trials)]
+    return [
+        [given(sinks["%d.out%d" % (number, port)]) for port in range(len(it.wanted))]
+        for number, it in enumerate(trials)
+    ]
 
 
 def given(words: Sequence[str]) -> Given:
@@ -132,7 +145,10 @@ def drawn_row(kinds: Sequence[Kind], inputs: Sequence[Stream], outputs: Sequence
     """The same of several blocks in a row, each by its id."""
     rows, ends, names = ["blocks:"], ["connections:"], ["tried%d" % at for at in range(len(kinds))]
     for name, block, keys in [
-        *(("in%d" % at, "blocks_file_source", {"type": it.type, "file": "x", "repeat": False}) for at, it in enumerate(inputs)),
+        *(
+            ("in%d" % at, "blocks_file_source", {"type": it.type, "file": "x", "repeat": False})
+            for at, it in enumerate(inputs)
+        ),
         *((name, it.kind, it.keys) for name, it in zip(names, kinds)),
         *(("out%d" % at, "blocks_vector_sink_x", {"type": it.type}) for at, it in enumerate(outputs)),
     ]:
@@ -147,7 +163,9 @@ def drawn_row(kinds: Sequence[Kind], inputs: Sequence[Stream], outputs: Sequence
     return graph
 
 
-def written(kinds: dict[str, Kind], connects: Sequence[str], inputs: Sequence[Stream], outputs: Sequence[Port]) -> Graph:
+def written(
+    kinds: dict[str, Kind], connects: Sequence[str], inputs: Sequence[Stream], outputs: Sequence[Port]
+) -> Graph:
     """A graph of blocks by their names and connections, `NAME.PORT NAME.PORT`, between sources and sinks."""
     graph = Graph()
     graph.blocks += [Block("in%d" % at, "vector_source", {"type": it.type}) for at, it in enumerate(inputs)]
@@ -165,7 +183,14 @@ def row(kinds: Sequence[Kind], fed: Stream, out: Port) -> Graph:
     return written(dict(zip(names[1:], kinds)), [" ".join(it) for it in zip(names, names[1:])], [fed], [out])
 
 
-def compare(own: Any, graph: Graph, inputs: Sequence[Stream], outputs: Sequence[Port], counts: Optional[Sequence[int]] = None, tags: bool = True) -> None:
+def compare(
+    own: Any,
+    graph: Graph,
+    inputs: Sequence[Stream],
+    outputs: Sequence[Port],
+    counts: Optional[Sequence[int]] = None,
+    tags: bool = True,
+) -> None:
     """Has a graph give what GNU Radio's block gives: of each output all items, or only so many where there are counts,
     and all tags unless these differ."""
     wanted = in_gnu_radio(own, inputs, outputs)
@@ -216,7 +241,10 @@ def block_interleaver() -> None:
         packed &= type == "byte"
         order = order_of(chance, 8 * chance.randint(1, 32) if packed else chance.randint(1, 256))
         fed = stream(chance, type, chance.randint(0, 300))
-        keys = {"type": type, "interleaver_indices": order, "interleaver_mode": "interleave" if there else "deinterleave", "is_packed": packed}
+        keys = {
+            "type": type, "interleaver_indices": order, "interleaver_mode": "interleave" if there else "deinterleave",
+            "is_packed": packed,
+        }
         own = getattr(blocks, "blockinterleaver_%s" % (LETTERS[type] * 2))(order, there, packed)
         compare(own, drawn("blocks_blockinterleaver_xx", keys, [fed], [Port(type)]), [fed], [Port(type)])
 
@@ -274,8 +302,13 @@ def stream_demux() -> None:
         type, lengths = typed(chance), [chance.randint(1, 40) for _ in range(chance.randint(1, 16))]
         fed = stream(chance, type, chance.randint(0, 300))
         outputs, rounds = [Port(type)] * len(lengths), len(fed.items) // sum(lengths)
-        graph = drawn("blocks_stream_demux", {"type": type, "lengths": lengths, "num_outputs": len(lengths)}, [fed], outputs)
-        compare(blocks.stream_demux(SIZES[type], lengths), graph, [fed], outputs, [rounds * it for it in lengths], tags=False)
+        graph = drawn(
+            "blocks_stream_demux", {"type": type, "lengths": lengths, "num_outputs": len(lengths)}, [fed], outputs
+        )
+        compare(
+            blocks.stream_demux(SIZES[type], lengths), graph, [fed], outputs, [rounds * it for it in lengths],
+            tags=False,
+        )
 
     each(trial)
 
@@ -317,7 +350,10 @@ def depuncture() -> None:
     def trial(chance: random.Random) -> None:
         size, pattern, delay = pattern_of(chance)
         symbol, fed = chance.randint(0, 255), stream(chance, "byte", chance.randint(0, 300))
-        graph = drawn("fec_depuncture_bb", {"puncsize": size, "puncpat": pattern, "delay": delay, "sym": symbol}, [fed], [Port("byte")])
+        graph = drawn(
+            "fec_depuncture_bb", {"puncsize": size, "puncpat": pattern, "delay": delay, "sym": symbol}, [fed],
+            [Port("byte")],
+        )
         compare(fec.depuncture_bb(size, pattern, delay, symbol), graph, [fed], [Port("byte")])
 
     each(trial)
@@ -366,7 +402,10 @@ def selector() -> None:
         type, ins, outs = typed(chance), chance.randint(1, 16), chance.randint(1, 4)
         chosen, to, on = chance.randrange(ins), chance.randrange(outs), chance.random() < 0.8
         fed = [stream(chance, type, chance.randint(10, 30)) for _ in range(ins)]
-        keys = {"type": type, "num_inputs": ins, "num_outputs": outs, "input_index": chosen, "output_index": to, "enabled": on}
+        keys = {
+            "type": type, "num_inputs": ins, "num_outputs": outs, "input_index": chosen, "output_index": to,
+            "enabled": on,
+        }
         own, outputs = blocks.selector(SIZES[type], chosen, to), [Port(type)] * outs
         own.set_enabled(on)
         counts = [min(len(it.items) for it in fed) if on and at == to else 0 for at in range(outs)]
@@ -380,7 +419,10 @@ def sample_and_hold() -> None:
 
     def trial(chance: random.Random) -> None:
         type, asked = typed(chance), stream(chance, "byte", chance.randint(0, 100))
-        fed = [stream(chance, type, chance.randint(0, 100)), asked._replace(items=[it if it < 60 else 0 for it in asked.items])]
+        fed = [
+            stream(chance, type, chance.randint(0, 100)),
+            asked._replace(items=[it if it < 60 else 0 for it in asked.items]),
+        ]
         count = min(len(it.items) for it in fed)
         own = getattr(blocks, "sample_and_hold_" + 2 * LETTERS[type])()
         compare(own, drawn("blocks_sample_and_hold_xx", {"type": type}, fed, [Port(type)]), fed, [Port(type)], [count])
@@ -465,7 +507,9 @@ def ccsds_encoder() -> None:
 
     def trial(chance: random.Random) -> None:
         fed = stream(chance, "byte", chance.randint(0, 300))
-        compare(fec.encode_ccsds_27_bb(), coded([109, 79], fed, [Kind("unpack_k_bits", {"k": 8})]), [fed], [Port("byte")])
+        compare(
+            fec.encode_ccsds_27_bb(), coded([109, 79], fed, [Kind("unpack_k_bits", {"k": 8})]), [fed], [Port("byte")]
+        )
 
     each(trial)
 
@@ -501,7 +545,9 @@ def bit_orders() -> None:
         for name in ("packed_to_unpacked", "unpacked_to_packed"):
             own = getattr(blocks, "%s_%s" % (name, LETTERS[type] * 2))(bits, order)
             compare(own, drawn("blocks_%s_xx" % name, keys, [fed], [Port(type)]), [fed], [Port(type)], tags=False)
-        graph = drawn("blocks_repack_bits_bb", {"k": k, "l": l, "endianness": keys["endianness"]}, [low], [Port("byte")])
+        graph = drawn(
+            "blocks_repack_bits_bb", {"k": k, "l": l, "endianness": keys["endianness"]}, [low], [Port("byte")]
+        )
         compare(blocks.repack_bits_bb(k, l, "", False, order), graph, [low], [Port("byte")], tags=False)
 
     each(trial)
@@ -563,18 +609,30 @@ class Vectors:
         turned = self.kind("permute", order=[at % size * n + at // size for at in range(n * size)])
         for own, kinds in (
             (blocks.keep_one_in_n(own_size, n), [last]),
-            (blocks.keep_m_in_n(own_size, 1, n, offset), [self.kind("keep_m_in_n", m=size, n=n * size, offset=offset * size)]),
+            (
+                blocks.keep_m_in_n(own_size, 1, n, offset),
+                [self.kind("keep_m_in_n", m=size, n=n * size, offset=offset * size)],
+            ),
             (blocks.repeat(own_size, n), [self.kind("repeat", n=n), turned]),
             (blocks.head(own_size, n), [self.kind("head", n=n * size)]),
             (blocks.skiphead(own_size, n), [self.kind("skiphead", n=n * size)]),
             (blocks.delay(own_size, n), [self.kind("delay", n=n * size)]),
-            (trellis.permutation(2, [1, 0], n, own_size), [self.kind("permute", order=[*range(n * size, 2 * n * size), *range(n * size)])]),
+            (
+                trellis.permutation(2, [1, 0], n, own_size),
+                [self.kind("permute", order=[*range(n * size, 2 * n * size), *range(n * size)])],
+            ),
         ):
             compare(own, row(kinds, fed[0], out), fed, [out], tags=False)
         flat = fed[0]._replace(vector=1, tags=[])
         compare(blocks.stream_to_vector(SIZES[self.type], size), row([], flat, out), [flat], [out])
-        compare(blocks.vector_to_stream(SIZES[self.type], size), row([], fed[0], Port(self.type)), fed, [Port(self.type)], tags=False)
-        compare(blocks.stream_to_vector_decimator(SIZES[self.type], n * size, 1, size), row([last], flat, out), [flat], [out])
+        compare(
+            blocks.vector_to_stream(SIZES[self.type], size), row([], fed[0], Port(self.type)), fed, [Port(self.type)],
+            tags=False,
+        )
+        compare(
+            blocks.stream_to_vector_decimator(SIZES[self.type], n * size, 1, size), row([last], flat, out), [flat],
+            [out],
+        )
 
     def between_streams(self) -> None:
         """Several streams become one by stream_mux, and one several by a keep_m_in_n for each."""
@@ -587,29 +645,58 @@ class Vectors:
         ):
             fed = self.fed(self.type, 3)
             mux = {"it": self.kind("stream_mux", lengths=[length] * 3)}
-            compare(own, written(mux, ["in0 it.0", "in1 it.1", "in2 it.2", "it out0"], fed, [out]), fed, [out], tags=False)
+            compare(
+                own, written(mux, ["in0 it.0", "in1 it.1", "in2 it.2", "it out0"], fed, [out]), fed, [out], tags=False
+            )
         for own, length, vector in (
             (blocks.stream_to_streams(own_size, 3), size, size),
             (blocks.vector_to_streams(own_size, 3), size, 3 * size),
             (blocks.deinterleave(own_size, n), n * size, size),
             (blocks.stream_demux(own_size, [n] * 3), n * size, size),
         ):
-            fed, outs = [stream(self.chance, self.type, 3 * n * self.chance.randint(1, 5), vector)], [Port(self.type, size)] * 3
-            kept = {"it%d" % at: self.kind("keep_m_in_n", m=length, n=3 * length, offset=at * length) for at in range(3)}
-            compare(own, written(kept, [*("in0 " + it for it in kept), *("it%d out%d" % (at, at) for at in range(3))], fed, outs), fed, outs, tags=False)
+            fed, outs = [stream(self.chance, self.type, 3 * n * self.chance.randint(1, 5), vector)], [
+                Port(self.type, size)
+            ] * 3
+            kept = {
+                "it%d" % at: self.kind("keep_m_in_n", m=length, n=3 * length, offset=at * length) for at in range(3)
+            }
+            compare(
+                own,
+                written(
+                    kept, [*("in0 " + it for it in kept), *("it%d out%d" % (at, at) for at in range(3))], fed, outs
+                ),
+                fed,
+                outs,
+                tags=False,
+            )
 
     def places(self) -> None:
         """A block for each place of a vector, between deinterleave and interleave."""
         values, letter = [self.chance.randint(0, 255) for _ in range(self.size)], LETTERS[self.wide] * 2
         for own, type, kinds in (
-            (getattr(blocks, "add_const_v" + LETTERS[self.type] * 2)(values), self.type, [("add_const", {"value": it}) for it in values]),
-            (getattr(blocks, "multiply_const_v" + letter)(values), self.wide, [("multiply_const", {"value": it}) for it in values]),
-            (getattr(blocks, "integrate_" + letter)(self.n, self.size), self.wide, [("integrate", {"n": self.n})] * self.size),
-            (getattr(blocks, "moving_average_" + letter)(self.n, 1, 4000, self.size), self.wide, [("moving_sum", {"length": self.n})] * self.size),
+            (
+                getattr(blocks, "add_const_v" + LETTERS[self.type] * 2)(values), self.type,
+                [("add_const", {"value": it}) for it in values],
+            ),
+            (
+                getattr(blocks, "multiply_const_v" + letter)(values), self.wide,
+                [("multiply_const", {"value": it}) for it in values],
+            ),
+            (
+                getattr(blocks, "integrate_" + letter)(self.n, self.size), self.wide,
+                [("integrate", {"n": self.n})] * self.size,
+            ),
+            (
+                getattr(blocks, "moving_average_" + letter)(self.n, 1, 4000, self.size), self.wide,
+                [("moving_sum", {"length": self.n})] * self.size,
+            ),
         ):
             fed, out = self.fed(type, 1), Port(type, self.size)
             blocks_of = {"it%d" % at: Kind(kind, {"type": type, **keys}) for at, (kind, keys) in enumerate(kinds)}
-            connects = ["in0 split", "turns out0", *("split.%d it%d" % (at, at) for at in range(self.size)), *("it%d turns.%d" % (at, at) for at in range(self.size))]
+            connects = [
+                "in0 split", "turns out0", *("split.%d it%d" % (at, at) for at in range(self.size)),
+                *("it%d turns.%d" % (at, at) for at in range(self.size)),
+            ]
             for name, kind in (("split", "deinterleave"), ("turns", "interleave")):
                 blocks_of[name] = Kind(kind, {"type": type, "ports": self.size})
             compare(own, written(blocks_of, connects, fed, [out]), fed, [out], tags=False)
@@ -631,7 +718,10 @@ class Vectors:
         for at, (first, out) in enumerate(zip((0, count), outs)):
             kinds["it%d" % at] = self.kind("keep_m_in_n", m=out.vector, n=2 * size, offset=first)
         connects = ["in0 mux.0", "in1 mux.1", "mux order", "order it0", "order it1", "it0 out0", "it1 out1"]
-        compare(blocks.vector_map(SIZES[self.type], [size, size], mapping), written(kinds, connects, fed, outs), fed, outs, tags=False)
+        compare(
+            blocks.vector_map(SIZES[self.type], [size, size], mapping), written(kinds, connects, fed, outs), fed, outs,
+            tags=False,
+        )
 
 
 def vectors() -> None:

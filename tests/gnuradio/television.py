@@ -28,14 +28,24 @@ def packets(chance: random.Random, count: int) -> list[int]:
     return [it for _ in range(count) for it in (0x47, *any_items(chance, PACKET - 1))]
 
 
-def begins(own: Any, kinds: dict[str, Kind], connects: Sequence[str], fed: Stream, vector: int = 1, given: int = 1, taken: int = 1) -> None:
+def begins(
+    own: Any,
+    kinds: dict[str, Kind],
+    connects: Sequence[str],
+    fed: Stream,
+    vector: int = 1,
+    given: int = 1,
+    taken: int = 1,
+) -> None:
     """Has blocks give what the block of GNU Radio gives, so many items for so many. The rest that it leaves is not
     fed."""
     items = in_gnu_radio(own, [fed], [Port("byte", vector)])[0].items
     rounds = len(items) // given
     assert rounds > 0, "GNU Radio gives nothing"
     short = Stream("byte", fed.items[: rounds * taken])
-    TRIED.append(Trial(written(kinds, connects, [short], [Port("byte")]), [short], [Given(items[: rounds * given], [])], False))
+    TRIED.append(
+        Trial(written(kinds, connects, [short], [Port("byte")]), [short], [Given(items[: rounds * given], [])], False)
+    )
 
 
 def machine(again: Sequence[int]) -> Kind:
@@ -50,7 +60,10 @@ def scrambled(again: Sequence[int]) -> tuple[dict[str, Kind], list[str]]:
     connects = ["in0 deinterleave", "interleave out0"]
     for at in range(ports):
         kinds["m%d" % at], kinds["x%d" % at] = machine(again[at::ports]), Kind("xor", {"type": "byte"})
-        connects += [it.format(at) for it in ("deinterleave.{0} m{0}", "deinterleave.{0} x{0}.0", "m{0} x{0}.1", "x{0} interleave.{0}")]
+        connects += [
+            it.format(at)
+            for it in ("deinterleave.{0} m{0}", "deinterleave.{0} x{0}.0", "m{0} x{0}.1", "x{0} interleave.{0}")
+        ]
     return kinds, connects
 
 
@@ -95,10 +108,17 @@ def branches() -> None:
             (dtv.dvbt_convolutional_interleaver(136, count, step), frame, 1, 1),
             (dtv.dvbt_convolutional_deinterleaver(136, count, step), 1, frame, -1),
         ):
-            kinds = {"it%d" % at: Kind("delay", {"type": "byte", "n": step * it}) for at, it in enumerate(range(count)[::turn])}
-            kinds.update({name: Kind(name, {"type": "byte", "ports": count}) for name in ("deinterleave", "interleave")})
+            kinds = {
+                "it%d" % at: Kind("delay", {"type": "byte", "n": step * it})
+                for at, it in enumerate(range(count)[::turn])
+            }
+            kinds.update(
+                {name: Kind(name, {"type": "byte", "ports": count}) for name in ("deinterleave", "interleave")}
+            )
             connects = ["in0 deinterleave", "interleave head", "head out0"]
-            connects += [it.format(at) for at in range(count) for it in ("deinterleave.{0} it{0}", "it{0} interleave.{0}")]
+            connects += [
+                it.format(at) for at in range(count) for it in ("deinterleave.{0} it{0}", "it{0} interleave.{0}")
+            ]
             wanted = in_gnu_radio(own, [Stream("byte", fed, [], taken)], [Port("byte", vector)])
             kinds["head"] = Kind("head", {"type": "byte", "n": len(wanted[0].items)})
             stream = Stream("byte", fed)
@@ -108,7 +128,10 @@ def branches() -> None:
 
 
 # Of each rate which of the bits X and Y of the code are sent.
-RATES = {"C1_2": ["XY"], "C2_3": ["XY", "Y"], "C3_4": ["XY", "Y", "X"], "C5_6": ["XY", "Y", "X", "Y", "X"], "C7_8": ["XY", "Y", "Y", "Y", "X", "Y", "X"]}
+RATES = {
+    "C1_2": ["XY"], "C2_3": ["XY", "Y"], "C3_4": ["XY", "Y", "X"], "C5_6": ["XY", "Y", "X", "Y", "X"],
+    "C7_8": ["XY", "Y", "Y", "Y", "X", "Y", "X"],
+}
 
 
 def inner_coder() -> None:
@@ -128,7 +151,10 @@ def inner_coder() -> None:
             "sent": Kind("keep_m_in_n", {"type": "byte", "m": len(places), "n": len(order)}),
             "symbols": Kind("pack_k_bits", {"k": BITS[name]}),
         }
-        connects = ["in0 bits", "bits x", "bits y", "x code.0", "y code.1", "code order", "order sent", "sent symbols", "symbols out0"]
+        connects = [
+            "in0 bits", "bits x", "bits y", "x code.0", "y code.1", "code order", "order sent", "sent symbols",
+            "symbols out0",
+        ]
         own = dtv.dvbt_inner_coder(1, 1512, getattr(dtv, name), dtv.NH, getattr(dtv, rate))
         # (of 8 times as many bytes as bits go in, so many symbols are whole)
         taken, given = BITS[name] * len(RATES[rate]), 8 * len(places)
@@ -154,7 +180,9 @@ def inner_interleaver() -> None:
             kinds.update({it: Kind(it, {"type": "byte", "ports": bits}) for it in ("deinterleave", "interleave")})
             connects = ["in0 unpack", "unpack deinterleave", "interleave pack", "pack out0"]
             for at, branch in enumerate(BRANCHES[bits]):
-                kinds["it%d" % branch] = Kind("permute", {"type": "byte", "order": [(it + turn * MOVED[branch]) % 126 for it in range(126)]})
+                kinds["it%d" % branch] = Kind(
+                    "permute", {"type": "byte", "order": [(it + turn * MOVED[branch]) % 126 for it in range(126)]}
+                )
                 ports = (at, branch) if turn == 1 else (branch, at)
                 connects += ["deinterleave.%d it%d" % (ports[0], branch), "it%d interleave.%d" % (branch, ports[1])]
             own = make(size, getattr(dtv, name), dtv.NH, mode)
@@ -177,8 +205,12 @@ def frames() -> None:
         symbols.append(symbols[-2] ^ product)
 
     def trial(chance: random.Random) -> None:
-        for standard, size, rate, count in (("DVBS2", "SHORT", "C1_4", 3072), ("DVBT2", "NORMAL", "C1_2", 32208), ("DVBS2", "NORMAL", "C9_10", 58192)):
-            own = dtv.dvb_bbscrambler_bb(getattr(dtv, "STANDARD_" + standard), getattr(dtv, "FECFRAME_" + size), getattr(dtv, rate))
+        for standard, size, rate, count in (
+            ("DVBS2", "SHORT", "C1_4", 3072), ("DVBT2", "NORMAL", "C1_2", 32208), ("DVBS2", "NORMAL", "C9_10", 58192),
+        ):
+            own = dtv.dvb_bbscrambler_bb(
+                getattr(dtv, "STANDARD_" + standard), getattr(dtv, "FECFRAME_" + size), getattr(dtv, rate)
+            )
             begins(own, *scrambled(spread[:count]), Stream("byte", any_items(chance, 2 * count, 1)))
         for constellation, count in (("64QAM", 60 * 128), ("256QAM", 88 * 128)):
             own = dtv.catv_randomizer_bb(getattr(dtv, "CATV_MOD_" + constellation))
@@ -208,7 +240,10 @@ def packet_frames() -> None:
         "other": Kind("xor", {"type": "byte"}),
         "frame": Kind("stream_mux", {"type": "byte", "lengths": [PACKET - 1, 1]}),
     }
-    connects = ["in0 rest", "rest summed", "summed sum", "in0 first", "first turned", "turned other.0", "sum other.1", "rest frame.0", "other frame.1", "frame out0"]
+    connects = [
+        "in0 rest", "rest summed", "summed sum", "in0 first", "first turned", "turned other.0", "sum other.1",
+        "rest frame.0", "other frame.1", "frame out0",
+    ]
     padded = {"it": Kind("insert", {"type": "byte", "values": [0] * 68, "period": 256, "offset": PACKET})}
 
     def trial(chance: random.Random) -> None:

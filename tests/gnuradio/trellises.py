@@ -39,7 +39,9 @@ def machine(chance: random.Random, most_symbols: int = 4, most_outputs: int = 8)
     """A machine by chance."""
     symbols, states, outputs = chance.randint(1, most_symbols), chance.randint(1, 16), chance.randint(1, most_outputs)
     rows = range(symbols * states)
-    return Machine(symbols, states, outputs, [chance.randrange(states) for _ in rows], [chance.randrange(outputs) for _ in rows])
+    return Machine(
+        symbols, states, outputs, [chance.randrange(states) for _ in rows], [chance.randrange(outputs) for _ in rows]
+    )
 
 
 def words(it: Machine) -> str:
@@ -64,7 +66,9 @@ def encoder() -> None:
             made, length = machine(chance, 9, 256), chance.randint(1, 20)
             start = chance.randrange(made.states)
             taken, given = (TYPES[it] for it in letters)
-            fed = Stream(taken, [chance.randrange(made.symbols) for _ in range(length * chance.randint(1, 9))], [(0, "mark", 7)])
+            fed = Stream(
+                taken, [chance.randrange(made.symbols) for _ in range(length * chance.randint(1, 9))], [(0, "mark", 7)]
+            )
             keys = {"type": letters, "fsm_args": words(made), "init_state": start}
             own = getattr(trellis, "encoder_" + letters)
             for words_of in ([], [length]):
@@ -86,10 +90,18 @@ def code() -> None:
         assert made.metrics == [[bin(it ^ word).count("1") for it in range(2**count)] for word in range(2**count)]
         bits = Stream("byte", [chance.randint(0, 1) for _ in range(200)])
         keys = {"type": "bb", "fsm_args": "1, %d, %s" % (count, polynomials)}
-        compare(trellis.encoder_bb(fsm, 0), drawn("trellis_encoder_xx", keys, [bits], [Port("byte")]), [bits], [Port("byte")])
-        odd = [1 + 2 * chance.randrange(2 ** (length - 1)) for _ in range(chance.randint(2, 6))] + [2 ** (length - 1) + 1]
+        compare(
+            trellis.encoder_bb(fsm, 0), drawn("trellis_encoder_xx", keys, [bits], [Port("byte")]), [bits],
+            [Port("byte")],
+        )
+        odd = [1 + 2 * chance.randrange(2 ** (length - 1)) for _ in range(chance.randint(2, 6))] + [
+            2 ** (length - 1) + 1
+        ]
         made = magbelu.convolutional(*odd, order="lsb_first")
-        coded = [Kind("state_machine", {"symbols": 2, "next": made.next, "output": made.output, "init": 0}), Kind("unpack_k_bits", {"k": len(odd)})]
+        coded = [
+            Kind("state_machine", {"symbols": 2, "next": made.next, "output": made.output, "init": 0}),
+            Kind("unpack_k_bits", {"k": len(odd)}),
+        ]
         own = fec.encoder(fec.cc_encoder.make(8, length, len(odd), odd, 0, fec.CC_STREAMING), 1, 1)
         compare(own, row(coded, bits, Port("byte")), [bits], [Port("byte")], tags=False)
 
@@ -131,7 +143,10 @@ def viterbi_combined() -> None:
             made = machine(chance)
             keys, out = path(chance, made, 20), Port(TYPES[letters[1]])
             points = Points.drawn(chance, TYPES[letters[0]], made.outputs, keys["block_size"])
-            graph = drawn("trellis_viterbi_combined_xx", {"type": letters[0], "out_type": letters[1], **keys, **points.keys()}, [points.fed], [out])
+            graph = drawn(
+                "trellis_viterbi_combined_xx", {"type": letters[0], "out_type": letters[1], **keys, **points.keys()},
+                [points.fed], [out],
+            )
             own = getattr(trellis, "viterbi_combined_" + letters)(
                 trellis.fsm(*made), *list(keys.values())[1:], points.dimensions, points.table, digital.TRELLIS_EUCLIDEAN
             )
@@ -151,8 +166,11 @@ def viterbi() -> None:
             first = Kind("trellis_metrics_x", {"type": letters[0], "card": made.outputs, **points.keys()})
             graph = drawn_row([first, Kind("trellis_viterbi_x", {"type": letters[1], **keys})], [points.fed], [out])
             own = Row(
-                SIZES[points.fed.type], SIZES[out.type],
-                getattr(trellis, "metrics_" + letters[0])(made.outputs, points.dimensions, points.table, digital.TRELLIS_EUCLIDEAN),
+                SIZES[points.fed.type],
+                SIZES[out.type],
+                getattr(trellis, "metrics_" + letters[0])(
+                    made.outputs, points.dimensions, points.table, digital.TRELLIS_EUCLIDEAN
+                ),
                 getattr(trellis, "viterbi_" + letters[1])(trellis.fsm(*made), *list(keys.values())[1:]),
             )
             compare(own, graph, [points.fed], [out], tags=False)
@@ -168,9 +186,16 @@ def far() -> None:
         table = [chance.randint(-9000, -4000), chance.randint(4000, 9000)]
         middle = sum(table) // 2
         fed = Stream("short", [it for it in (chance.randint(-9000, 9000) for _ in range(100)) if abs(it - middle) > 10])
-        keys = {"fsm_args": "2, 1, 2, [0, 0], [0, 1]", "block_size": 4, "type": "s", "out_type": "b", "dim": 1, "table": table}
-        own = trellis.viterbi_combined_sb(trellis.fsm(2, 1, 2, [0, 0], [0, 1]), 4, 0, -1, 1, table, digital.TRELLIS_EUCLIDEAN)
-        compare(own, drawn("trellis_viterbi_combined_xx", keys, [fed], [Port("byte")]), [fed], [Port("byte")], tags=False)
+        keys = {
+            "fsm_args": "2, 1, 2, [0, 0], [0, 1]", "block_size": 4, "type": "s", "out_type": "b", "dim": 1,
+            "table": table,
+        }
+        own = trellis.viterbi_combined_sb(
+            trellis.fsm(2, 1, 2, [0, 0], [0, 1]), 4, 0, -1, 1, table, digital.TRELLIS_EUCLIDEAN
+        )
+        compare(
+            own, drawn("trellis_viterbi_combined_xx", keys, [fed], [Port("byte")]), [fed], [Port("byte")], tags=False
+        )
 
     each(trial)
 

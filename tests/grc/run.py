@@ -49,7 +49,9 @@ def made_recording() -> bytes:
     """The recording of examples/signal."""
     with tempfile.TemporaryDirectory() as room:
         path = pathlib.Path(room) / "recording.s16"
-        subprocess.run([sys.executable, str(TOP / "examples" / "signal" / "make.py"), "recording", str(path)], check=True)
+        subprocess.run(
+            [sys.executable, str(TOP / "examples" / "signal" / "make.py"), "recording", str(path)], check=True
+        )
         return path.read_bytes()
 
 
@@ -62,7 +64,9 @@ class Case:
     lacks: str = ""
 
 
-def convert(words: Sequence[str], room: pathlib.Path, env: Mapping[str, str] = os.environ) -> "subprocess.CompletedProcess[str]":
+def convert(
+    words: Sequence[str], room: pathlib.Path, env: Mapping[str, str] = os.environ
+) -> "subprocess.CompletedProcess[str]":
     """Calls flow-from-grc in a folder."""
     return subprocess.run([sys.executable, str(CONVERTER), *words], cwd=room, env=env, capture_output=True, text=True)
 
@@ -115,7 +119,9 @@ def to_a_path_of_two_lines(room: pathlib.Path) -> Tuple[object, object]:
     found, wanted = [], []
     for path in ("a\nkey = 1.toml", "\x7f.toml"):
         answer = convert(["-o", path, "adders.grc"], room)
-        found.append((answer.returncode, (room / path).read_text(), answer.stderr.endswith("-o late=late.u8 '%s'\n" % path)))
+        found.append(
+            (answer.returncode, (room / path).read_text(), answer.stderr.endswith("-o late=late.u8 '%s'\n" % path))
+        )
         wanted.append((0, (EXAMPLES / "adders.toml").read_text(), True))
     return found, wanted
 
@@ -198,7 +204,12 @@ def sinks_of(report: str) -> List[str]:
 UNSTEADY = {"frames"}
 
 
-def runs(where: str, lacks: str, example: Callable[[pathlib.Path, pathlib.Path], None], sinks: Callable[[pathlib.Path], List[str]]) -> Iterator[Case]:
+def runs(
+    where: str,
+    lacks: str,
+    example: Callable[[pathlib.Path, pathlib.Path], None],
+    sinks: Callable[[pathlib.Path], List[str]],
+) -> Iterator[Case]:
     """The files that the examples write where they run, and what the sinks of the other drawings hold there."""
 
     @functools.lru_cache(maxsize=None)
@@ -214,7 +225,9 @@ def runs(where: str, lacks: str, example: Callable[[pathlib.Path, pathlib.Path],
         yield Case("%s/%s" % (where, name), lambda name=name: (written().get(name), hand_made_samples()[name]), lacks)
     for path in sorted((HERE / "cases").glob("*.samples")):
         if where != "gnu_radio" or path.stem not in UNSTEADY:
-            yield Case("%s/%s" % (where, path.stem), lambda path=path: (sinks(path), path.read_text().splitlines()), lacks)
+            yield Case(
+                "%s/%s" % (where, path.stem), lambda path=path: (sinks(path), path.read_text().splitlines()), lacks
+            )
 
 
 def run_in_flow(path: pathlib.Path, room: pathlib.Path) -> None:
@@ -225,7 +238,11 @@ def run_in_flow(path: pathlib.Path, room: pathlib.Path) -> None:
 
 def sinks_in_flow(path: pathlib.Path) -> List[str]:
     """What flow reports of the graph file."""
-    return sinks_of(subprocess.run([str(FLOW), "run", str(path.with_suffix(".toml"))], capture_output=True, text=True, check=False).stdout)
+    return sinks_of(
+        subprocess.run(
+            [str(FLOW), "run", str(path.with_suffix(".toml"))], capture_output=True, text=True, check=False
+        ).stdout
+    )
 
 
 def in_flow() -> Iterator[Case]:

@@ -18,7 +18,9 @@ LOOKED_AT = 3
 def words_of(text: str) -> str:
     """A text as the search takes it: its words alone, and behind the parts of a name, as of Plant::feed, the whole as
     one word."""
-    named = re.sub(r"\w+(?:::|_)[\w:]+", lambda name: name.group() + " " + re.sub("[:_]", "", name.group()), text, flags=re.ASCII)
+    named = re.sub(
+        r"\w+(?:::|_)[\w:]+", lambda name: name.group() + " " + re.sub("[:_]", "", name.group()), text, flags=re.ASCII
+    )
     return re.sub(r"[\W_]+", " ", named, flags=re.ASCII)
 
 
@@ -30,7 +32,9 @@ def index_of(folder: Path) -> Any:
         document = {"location": it["location"], "title": words_of(it["title"]), "text": words_of(it["text"])}
         boost = float(boosts["REFERENCE"]) if it["location"].startswith("reference/") else 1
         documents.append((document, {"boost": boost}))
-    return lunr(ref="location", fields=({"field_name": "title", "boost": float(boosts["TITLE"])}, "text"), documents=documents)
+    return lunr(
+        ref="location", fields=({"field_name": "title", "boost": float(boosts["TITLE"])}, "text"), documents=documents
+    )
 
 
 def pages_for(index: Any, question: str) -> List[str]:

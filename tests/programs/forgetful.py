@@ -39,7 +39,10 @@ class Pen:
         self.blocks.append("{ %s }" % ", ".join(['name = "%s"' % name, 'kind = "%s"' % kind, *words]))
         for port, (source, at, _, _) in enumerate(inputs):
             # (most of a short run's time is that of its text)
-            ends = ['from = "%s"' % source, "from_port = %d" % at if at else "", 'to = "%s"' % name, "to_port = %d" % port if port else ""]
+            ends = [
+                'from = "%s"' % source, "from_port = %d" % at if at else "", 'to = "%s"' % name,
+                "to_port = %d" % port if port else "",
+            ]
             self.connects.append("{ %s }" % ", ".join(filter(None, ends)))
             self.read.add((source, at))
         self.outputs += [(name, port, type, pace) for port, (type, pace) in enumerate(gives)]
@@ -178,7 +181,10 @@ def decoded(pen, type):
 
 
 def filtered(pen, type):
-    return {"taps": [pen.chance.randint(-200, 200) for _ in range(pen.chance.randint(1, 20))], "shift": pen.chance.randint(0, 9)}
+    return {
+        "taps": [pen.chance.randint(-200, 200) for _ in range(pen.chance.randint(1, 20))],
+        "shift": pen.chance.randint(0, 9),
+    }
 
 
 def fir(pen, type):
@@ -256,10 +262,16 @@ def draw(seed):
     pen, feeds, sinks = Pen(seed), {}, {}
     length = pen.chance.choice(LENGTHS)
     for _ in range(pen.chance.choice([1, 1, 1, 2, 3])):
-        type, pace = pen.chance.choice([*TYPES, "byte"]), pen.chance.choice([Fraction(1), Fraction(1), Fraction(2), Fraction(3), Fraction(3, 2)])
+        type, pace = pen.chance.choice([*TYPES, "byte"]), pen.chance.choice(
+            [Fraction(1), Fraction(1), Fraction(2), Fraction(3), Fraction(3, 2)]
+        )
         name = pen.block("vector_source", [], [(type, pace)], type=type)
         items = [pen.item(type) for _ in range(int(length * pace))]
-        tags = [(at, pen.chance.choice(["burst", "mark"]), pen.chance.randint(-9, 9)) for at in range(len(items)) if pen.chance.random() < 0.2]
+        tags = [
+            (at, pen.chance.choice(["burst", "mark"]), pen.chance.randint(-9, 9))
+            for at in range(len(items))
+            if pen.chance.random() < 0.2
+        ]
         feeds[name] = Fed(type, items, tags)
     for _ in range(pen.chance.randint(1, 5)):
         pen.add()
@@ -269,4 +281,6 @@ def draw(seed):
     if pen.chance.random() < 0.2:
         output = pen.pick(lambda it: True)
         pen.block("null_sink", [output], [], type=output[2])
-    return Drawn("block = [\n%s\n]\nconnect = [\n%s\n]" % (",\n".join(pen.blocks), ",\n".join(pen.connects)), feeds, sinks)
+    return Drawn(
+        "block = [\n%s\n]\nconnect = [\n%s\n]" % (",\n".join(pen.blocks), ",\n".join(pen.connects)), feeds, sinks
+    )

@@ -100,7 +100,9 @@ def answer(start, lines):
     with tempfile.NamedTemporaryFile("w", suffix=".toml") as file:
         file.write("\n".join(["[[block]]", 'name = "a"', *lines, ""]))
         file.flush()
-        ran = subprocess.run([*start, "check", "--explain", file.name], capture_output=True, text=True, timeout=60, check=False)
+        ran = subprocess.run(
+            [*start, "check", "--explain", file.name], capture_output=True, text=True, timeout=60, check=False
+        )
     return ran.stderr
 
 
@@ -118,7 +120,9 @@ def main(start):
             for key, value in part.settings.items():
                 asked = settings.asked.get(value[0] if isinstance(value, list) else value)
                 if asked is not None and asked not in part.settings:
-                    asks.append((['kind = "%s"' % part.kind, "%s = 1" % asked], "GNU Radio's `%s` is `%s` here" % (asked, key)))
+                    asks.append(
+                        (['kind = "%s"' % part.kind, "%s = 1" % asked], "GNU Radio's `%s` is `%s` here" % (asked, key))
+                    )
         for lines, wanted in asks:
             count += 1
             said = answer(start, lines)

@@ -36,7 +36,10 @@ WANTED = [
 
 def trace():
     """The trace as `flow run --trace` writes it."""
-    events = [{"ph": "M", "pid": 1, "tid": at, "name": "thread_name", "args": {"name": name}} for at, name in enumerate(BLOCKS, 1)]
+    events = [
+        {"ph": "M", "pid": 1, "tid": at, "name": "thread_name", "args": {"name": name}}
+        for at, name in enumerate(BLOCKS, 1)
+    ]
     for kind, track, begin, length in SPANS:
         event = {"ph": "X", "pid": 1, "tid": track, "ts": begin, "dur": length, "name": BLOCKS[track - 1], "cat": kind}
         events.append({**event, "args": {"firings": 1}} if kind == "turn" else event)
@@ -48,7 +51,9 @@ def made(*words):
     with tempfile.NamedTemporaryFile("w") as file:
         file.write(trace())
         file.flush()
-        picture = subprocess.run([sys.executable, sys.argv[1], file.name, *words], stdout=subprocess.PIPE, check=True, text=True).stdout
+        picture = subprocess.run(
+            [sys.executable, sys.argv[1], file.name, *words], stdout=subprocess.PIPE, check=True, text=True
+        ).stdout
     return xml.etree.ElementTree.fromstring(picture)
 
 

@@ -86,7 +86,9 @@ def measured(folder, first, pieces):
     """How many bytes a run on so many pieces takes while nobody reads what it writes, and the most memory that it has
     until the first are read, and until all but one are."""
     words = [*sys.argv[3:], "run", "--jobs", str(THREADS), "-i", "in=-", "-o", "out=-", "graph.toml"]
-    with subprocess.Popen(words, cwd=folder, env=KEEPS_NOTHING, stdin=subprocess.PIPE, stdout=subprocess.PIPE, stderr=subprocess.DEVNULL) as running:
+    with subprocess.Popen(
+        words, cwd=folder, env=KEEPS_NOTHING, stdin=subprocess.PIPE, stdout=subprocess.PIPE, stderr=subprocess.DEVNULL
+    ) as running:
         sender = Sender(running.stdin, pieces * PIECE)
         sender.start()
         wait_until_full(running, sender)

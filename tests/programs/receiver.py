@@ -60,7 +60,8 @@ def commands_differ(page: Path) -> Iterator[str]:
         yield f"{page.name} shows no more than {len(calls)} commands"
     for command, shown in calls:
         done = subprocess.run(
-            ["bash", "-o", "pipefail", "-c", command], stdin=subprocess.DEVNULL, stdout=subprocess.PIPE, stderr=subprocess.STDOUT, text=True, timeout=LONGEST, check=False
+            ["bash", "-o", "pipefail", "-c", command], stdin=subprocess.DEVNULL, stdout=subprocess.PIPE,
+            stderr=subprocess.STDOUT, text=True, timeout=LONGEST, check=False,
         )
         if done.returncode != 0 or done.stdout != shown:
             yield f"$ {command}\nstatus {done.returncode}, wanted\n{shown}and there came\n{done.stdout}"
@@ -160,16 +161,24 @@ def errors(top: Path) -> Iterator[str]:
 def pictures(top: Path) -> Iterator[str]:
     """The pictures of the graphs."""
     for number, step in enumerate(STEPS, 1):
-        drawn = subprocess.run(["flow", "draw", f"examples/receiver/{step}.toml"], stdout=subprocess.PIPE, text=True, timeout=LONGEST, check=True).stdout
+        drawn = subprocess.run(
+            ["flow", "draw", f"examples/receiver/{step}.toml"], stdout=subprocess.PIPE, text=True, timeout=LONGEST,
+            check=True,
+        ).stdout
         Path("drawn").write_text(drawn)
-        told = subprocess.run([sys.executable, top / "tests/drawn.py", "drawn", top / f"docs/user/tutorial_step_{number}.svg"], stdout=subprocess.PIPE, text=True, check=False)
+        told = subprocess.run(
+            [sys.executable, top / "tests/drawn.py", "drawn", top / f"docs/user/tutorial_step_{number}.svg"],
+            stdout=subprocess.PIPE, text=True, check=False,
+        )
         if told.returncode != 0 or told.stdout:
             yield f"docs/user/tutorial_step_{number}.svg: {told.stdout}"
 
 
 def main(words: List[str]) -> int:
     """Tries the case, and says what is wrong."""
-    case, top, start = {"page": page, "errors": errors, "pictures": pictures}[words[0]], Path(words[1]).resolve(), words[2:]
+    case, top, start = (
+        {"page": page, "errors": errors, "pictures": pictures}[words[0]], Path(words[1]).resolve(), words[2:],
+    )
     sys.path.insert(0, str(top / "examples/receiver"))
     with tempfile.TemporaryDirectory() as room:
         set_up(top, start, Path(room))

@@ -144,7 +144,10 @@ def decoded(levels_of_bits: Items) -> Items:
     # (state s has the last six bits, the newest at bit 5: it comes of two states, by the bit that it has there)
     states = numpy.arange(64)
     registers = numpy.stack([2 * states, 2 * states + 1])
-    signs = [2 * numpy.array([[int(it & polynomial).bit_count() % 2 for it in row] for row in registers]) - 1 for polynomial in POLYNOMIALS]
+    signs = [
+        2 * numpy.array([[int(it & polynomial).bit_count() % 2 for it in row] for row in registers]) - 1
+        for polynomial in POLYNOMIALS
+    ]
     sums = numpy.full((len(pairs), 64), -(1 << 60))
     sums[:, 0] = 0
     choices = []

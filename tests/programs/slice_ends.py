@@ -23,7 +23,9 @@ ITEMS = 400_000
 # An input of so many bytes is worth a thread for each processor.
 LONG = 1 << 24
 # One item in three of a filter, and the sums of these; a source of shorts.
-FILTER = 'kind = "fir", type = "short", taps = [3, -1, 4, 1, -5, 9, 2, -6, 5, 3, 5, -8, 9, 7], shift = 4, decimation = 3'
+FILTER = (
+    'kind = "fir", type = "short", taps = [3, -1, 4, 1, -5, 9, 2, -6, 5, 3, 5, -8, 9, 7], shift = 4, decimation = 3'
+)
 SUM = 'kind = "moving_sum", type = "short", length = 40'
 GRAPH = f"""
 block = [
@@ -72,7 +74,9 @@ class Folder:
         self.names, self.ends = SINKS, OUTPUTS
         if has_tags:
             self.path.joinpath("marks").write_text(marks_of(items), encoding="utf-8")
-            self.names, self.ends = [*SINKS, *("%s.tags" % name for name in SINKS)], [*OUTPUTS, "--marks", "in=marks", *TAGS]
+            self.names, self.ends = [*SINKS, *("%s.tags" % name for name in SINKS)], [
+                *OUTPUTS, "--marks", "in=marks", *TAGS,
+            ]
 
     def words(self, *more):
         return [*sys.argv[2:], "run", *more, "-i", "in=in", *self.ends, "graph.toml"]
@@ -83,7 +87,10 @@ class Folder:
 
     def start(self, *more, **how):
         """A run that is not waited for."""
-        return subprocess.Popen(self.words(*more), cwd=self.path, stdin=subprocess.DEVNULL, stdout=subprocess.DEVNULL, stderr=subprocess.PIPE, **how)
+        return subprocess.Popen(
+            self.words(*more), cwd=self.path, stdin=subprocess.DEVNULL, stdout=subprocess.DEVNULL,
+            stderr=subprocess.PIPE, **how,
+        )
 
     def run(self, *more, **how):
         """How a run ends: its status, what it says, and its outputs."""
@@ -201,7 +208,9 @@ def gone_on(path):
             with folder.start("--resume", *way) as resumed:
                 _, errors = resumed.communicate(timeout=600)
             if resumed.returncode != 0 or folder.outputs() != whole:
-                return "gone on with %s, and %s, by %s: %d %s" % (left[0][0], left[1][0], " ".join(way), resumed.returncode, errors.decode())
+                return "gone on with %s, and %s, by %s: %d %s" % (
+                    left[0][0], left[1][0], " ".join(way), resumed.returncode, errors.decode(),
+                )
     return None
 
 
@@ -267,8 +276,14 @@ def one_path(path):
     for second in ("one", "link"):
         said = []
         for way in (["--one-thread"], ["--jobs", "2"]):
-            words = [*sys.argv[2:], "run", *way, "-i", "in=in", "-o", "filtered=one", "-o", "summed=%s" % second, "graph.toml"]
-            answer = subprocess.run(words, cwd=folder.path, stdin=subprocess.DEVNULL, capture_output=True, text=True, timeout=600, check=False)
+            words = [
+                *sys.argv[2:], "run", *way, "-i", "in=in", "-o", "filtered=one", "-o", "summed=%s" % second,
+                "graph.toml",
+            ]
+            answer = subprocess.run(
+                words, cwd=folder.path, stdin=subprocess.DEVNULL, capture_output=True, text=True, timeout=600,
+                check=False,
+            )
             said.append((answer.returncode, answer.stdout, answer.stderr))
         if said[0] != said[1] or said[0][0] == 0 or folder.path.joinpath("one").exists():
             return "two outputs in %s: %s, and alone %s" % (second, said[1], said[0])
@@ -307,7 +322,10 @@ def unordered_marks(path):
 
 
 def bad(path):
-    tests = [cut_item, full_disk, lambda it: changed(it, True), lambda it: changed(it, False), one_path, one_file, unordered_marks]
+    tests = [
+        cut_item, full_disk, lambda it: changed(it, True), lambda it: changed(it, False), one_path, one_file,
+        unordered_marks,
+    ]
     for number, test in enumerate(tests):
         room = pathlib.Path(path).joinpath(str(number))
         room.mkdir()

@@ -34,7 +34,10 @@ KILLS = 3
 
 def call(folder, *words):
     """What the program answers: its status, and what it writes to its two streams."""
-    answer = subprocess.run([*sys.argv[1:], *words], cwd=folder, stdin=subprocess.DEVNULL, capture_output=True, text=True, timeout=600, check=False)
+    answer = subprocess.run(
+        [*sys.argv[1:], *words], cwd=folder, stdin=subprocess.DEVNULL, capture_output=True, text=True, timeout=600,
+        check=False,
+    )
     return answer.returncode, answer.stdout, answer.stderr
 
 
@@ -83,7 +86,9 @@ def slices_differ(folder, graph, inputs, whole, rng):
             lines[name] += text
     for name, text in tags(folder, graph, "whole").items():
         if items[name] != whole[name]:
-            return "%s in %d slices has %d bytes, and %d in the whole run" % (name, count, len(items[name]), len(whole[name]))
+            return "%s in %d slices has %d bytes, and %d in the whole run" % (
+                name, count, len(items[name]), len(whole[name]),
+            )
         if lines[name] != text:
             return "%s in %d slices has the tags %s, and %s in the whole run" % (name, count, lines[name], text)
     return None
@@ -93,7 +98,10 @@ def items_differ(folder, graph, inputs, whole, rng):
     """What is wrong with runs from an item on."""
     longest = max(len(items) // SIZES[graph.sinks[name]] for name, items in whole.items())
     start, count = rng.randint(0, longest + 5), rng.randint(0, longest + 5)
-    for words, end in [(["--from", str(start)], None), (["--from", str(start), "--items", str(count)], start + count), (["--items", str(count)], count)]:
+    for words, end in [
+        (["--from", str(start)], None), (["--from", str(start), "--items", str(count)], start + count),
+        (["--items", str(count)], count),
+    ]:
         part = run(folder, inputs, graph, "part", *words)
         for name, items in whole.items():
             size = SIZES[graph.sinks[name]]
@@ -134,7 +142,9 @@ def jobs_differ(folder, graph, inputs, whole, rng):
 def pieces_differ(folder, graph, inputs, whole, rng):
     """What is wrong with a run in one piece, in pieces from an item on, and in those of a slice."""
     start = rng.randint(0, 50)
-    ways = [(0, ["--jobs", "1"]), (start, ["--jobs", "2", "--from", str(start)]), (0, ["--jobs", "2", "--slice", "1/1"])]
+    ways = [
+        (0, ["--jobs", "1"]), (start, ["--jobs", "2", "--from", str(start)]), (0, ["--jobs", "2", "--slice", "1/1"]),
+    ]
     return next(filter(None, (pieces_differ_by(folder, graph, inputs, whole, *way) for way in ways)), None)
 
 
@@ -145,7 +155,11 @@ def pieces_differ_by(folder, graph, inputs, whole, first, words):
         wanted = whole[name][first * SIZES[graph.sinks[name]] :]
         if part[name] != wanted:
             return "%s by %s has %d bytes, and not %d" % (name, " ".join(words), len(part[name]), len(wanted))
-        lines = [line for line in tags(folder, graph, "whole")[name].splitlines(keepends=True) if first <= int(line[1 : line.index(":")])]
+        lines = [
+            line
+            for line in tags(folder, graph, "whole")[name].splitlines(keepends=True)
+            if first <= int(line[1 : line.index(":")])
+        ]
         if text != "".join(lines):
             return "%s by %s has the tags %s, and not %s" % (name, " ".join(words), text, "".join(lines))
     return None
@@ -179,7 +193,10 @@ def piped_differ(folder, graph, inputs, whole, rng):
         words += ["-i", "%s=%s.pipe" % (name, name)]
     for name in whole:
         words += ["-o", "%s=%s.part" % (name, name)]
-    with subprocess.Popen([*sys.argv[1:], *words, "graph.toml"], cwd=folder, stdin=subprocess.DEVNULL, stdout=subprocess.PIPE, stderr=subprocess.STDOUT, text=True) as piped:
+    with subprocess.Popen(
+        [*sys.argv[1:], *words, "graph.toml"], cwd=folder, stdin=subprocess.DEVNULL, stdout=subprocess.PIPE,
+        stderr=subprocess.STDOUT, text=True,
+    ) as piped:
         send(folder, sent, rng)
         said, _ = piped.communicate(timeout=600)
     if piped.returncode != 0:
@@ -196,16 +213,23 @@ def piped_differ(folder, graph, inputs, whole, rng):
 def killed_differs(folder, graph, inputs, whole, rng):
     """What is wrong with what killed runs in pieces left, and with the runs that go on with it."""
     outputs = [word for name in graph.sinks for word in ("-o", "%s=%s.part" % (name, name))]
-    words, lines = [*sys.argv[1:], "run", "--jobs", "3", *inputs, *outputs, *tagged(graph, "part"), "graph.toml"], tags(folder, graph, "whole")
+    words, lines = [*sys.argv[1:], "run", "--jobs", "3", *inputs, *outputs, *tagged(graph, "part"), "graph.toml"], tags(
+        folder, graph, "whole"
+    )
     for _ in range(KILLS):
         for name in whole:
             folder.joinpath("%s.part" % name).unlink(missing_ok=True)
             folder.joinpath("%s.part.tags" % name).unlink(missing_ok=True)
-        with subprocess.Popen(words, cwd=folder, stdin=subprocess.DEVNULL, stdout=subprocess.DEVNULL, stderr=subprocess.DEVNULL) as killed:
+        with subprocess.Popen(
+            words, cwd=folder, stdin=subprocess.DEVNULL, stdout=subprocess.DEVNULL, stderr=subprocess.DEVNULL
+        ) as killed:
             time.sleep(rng.uniform(0, 0.4))
             killed.kill()
         for name, items in whole.items():
-            for path, content in ((folder.joinpath("%s.part" % name), items), (folder.joinpath("%s.part.tags" % name), lines[name].encode())):
+            for path, content in (
+                (folder.joinpath("%s.part" % name), items),
+                (folder.joinpath("%s.part.tags" % name), lines[name].encode()),
+            ):
                 if path.exists() and not content.startswith(path.read_bytes()):
                     return "%s: what a killed run left is no beginning of the whole" % path.name
         part = run(folder, inputs, graph, "part", "--resume", "--jobs", "2", *tagged(graph, "part"))
@@ -228,13 +252,17 @@ def counted(seed):
     before = rng.choice(["moving_sum", "keep_one_in_n", "repeat", "delay", "skiphead"])
     blocks = [
         'name = "src", kind = "vector_source", type = "byte"',
-        'name = "before", kind = "%s", type = "byte", %s = %d' % (before, "length" if before == "moving_sum" else "n", rng.randint(1, 9)),
+        'name = "before", kind = "%s", type = "byte", %s = %d'
+        % (before, "length" if before == "moving_sum" else "n", rng.randint(1, 9)),
         'name = "noise", kind = "additive_scrambler", bits = %d, mask = %d, init = %d' % (bits, mask, init),
         'name = "first", kind = "head", type = "byte", n = %d' % count,
         'name = "some", kind = "vector_sink", type = "byte"',
         'name = "all", kind = "vector_sink", type = "byte"',
     ]
-    wires = [("src", "before"), *rng.choice([[("before", "noise"), ("noise", "first")], [("before", "first"), ("first", "noise")]])]
+    wires = [
+        ("src", "before"),
+        *rng.choice([[("before", "noise"), ("noise", "first")], [("before", "first"), ("first", "noise")]]),
+    ]
     wires += [(wires[-1][1], "some"), ("before", "all")]
     text = "block = [%s]\nconnect = [%s]\n" % (
         ", ".join("{ %s }" % block for block in blocks),

@@ -61,7 +61,10 @@ def graph(item, blocks):
     for number, block in enumerate(blocks):
         kind, _, parameters = block.partition(" ")
         parameters = parameters.replace("] ", "], ").replace("  ", " ")
-        rows.append('{ name = "b%d", kind = "%s", type = "%s"%s }' % (number, kind, item, ", " + parameters if parameters else ""))
+        rows.append(
+            '{ name = "b%d", kind = "%s", type = "%s"%s }'
+            % (number, kind, item, ", " + parameters if parameters else "")
+        )
     rows.append('{ name = "out", kind = "vector_sink", type = "%s" }' % item)
     names = ["src", *("b%d" % number for number in range(len(blocks))), "out"]
     wires = ", ".join('{ from = "%s", to = "%s" }' % pair for pair in zip(names, names[1:]))
@@ -97,7 +100,10 @@ class Live:
     def ends(self, status, report):
         """The run ends so."""
         came, errors = self.run.communicate(timeout=60)
-        check((self.run.returncode, came, errors) == (status, report, ""), "it ended in %d with %r and %r" % (self.run.returncode, came, errors))
+        check(
+            (self.run.returncode, came, errors) == (status, report, ""),
+            "it ended in %d with %r and %r" % (self.run.returncode, came, errors),
+        )
 
 
 def script(program, folder, lines):
@@ -147,14 +153,20 @@ def settings(program, folder):
             # (that a place has come already is refused with the first that has not)
             if reply.startswith("refused 27 "):
                 continue
-            check(word == "taken" and at.isdigit() and (place == "now" or at == place), "graph %d: the reply is %r" % (number, reply))
+            check(
+                word == "taken" and at.isdigit() and (place == "now" or at == place),
+                "graph %d: the reply is %r" % (number, reply),
+            )
             made.append("set b%d %s %s" % (which, at, text))
         check(len(made) > SETTINGS // 2, "graph %d: only %d settings were taken" % (number, len(made)))
         source.close()
         wanted = whole(program, here, made, fed)
         live.ends(0, "sink out %d\ndone\n" % len(wanted))
         came = (here / "out").read_bytes()
-        check(came == struct.pack(layout % len(wanted), *wanted), "graph %d: what streamed is not what the script gives" % number)
+        check(
+            came == struct.pack(layout % len(wanted), *wanted),
+            "graph %d: what streamed is not what the script gives" % number,
+        )
 
 
 def stop(program, folder):
@@ -197,7 +209,9 @@ def closes(program, folder):
         levels = [live.ask("levels"), live.reply(), live.reply()]
         if all(level.split()[2] == "100" for level in levels):
             break
-    check(levels == ["levels src 100 100 0", "levels b0 100 100 0", "levels out 100 100 0"], "levels at rest: %r" % levels)
+    check(
+        levels == ["levels src 100 100 0", "levels b0 100 100 0", "levels out 100 100 0"], "levels at rest: %r" % levels
+    )
     check(live.ask("close src") == "closed 100", "the reply to a close")
     live.ends(0, "sink out 100\ndone\n")
     source.close()
@@ -210,9 +224,18 @@ def lines(program, folder):
     live = Live(program, folder)
     source = open(folder / "in", "wb", buffering=0)
     for line, reply in [
-        ("feed src 1", "refused 50"), ("read out 0 1", "refused 50"), ("settle", "refused 50"), ("levls", "refused 50"), ("stop now", "refused 50"),
-        ("# a comment\n\nset b0 now 3", "taken 0"), ("set b1 now 3", "refused 28"), ("set b0 now 3 4", "refused 29"), ("set zzz now 3", "refused 20"),
-        ("close b0", "refused 21"), ("close zzz", "refused 20"), ("  levels  ", "levels src 0 0 0"),
+        ("feed src 1", "refused 50"),
+        ("read out 0 1", "refused 50"),
+        ("settle", "refused 50"),
+        ("levls", "refused 50"),
+        ("stop now", "refused 50"),
+        ("# a comment\n\nset b0 now 3", "taken 0"),
+        ("set b1 now 3", "refused 28"),
+        ("set b0 now 3 4", "refused 29"),
+        ("set zzz now 3", "refused 20"),
+        ("close b0", "refused 21"),
+        ("close zzz", "refused 20"),
+        ("  levels  ", "levels src 0 0 0"),
     ]:
         came = live.ask(line)
         check(came == reply, "to %r came %r" % (line, came))
@@ -229,7 +252,10 @@ def standard(program, folder):
     """Lines of standard input, with replies on standard output before the report."""
     (folder / "graph.toml").write_text(graph("byte", ["add_const value = 1"]), encoding="utf-8")
     os.mkfifo(folder / "in")
-    run = subprocess.Popen([*program, "live", "-i", "src=in", "-o", "out=out", "graph.toml"], cwd=folder, stdin=subprocess.PIPE, stdout=subprocess.PIPE, text=True, bufsize=1)
+    run = subprocess.Popen(
+        [*program, "live", "-i", "src=in", "-o", "out=out", "graph.toml"], cwd=folder, stdin=subprocess.PIPE,
+        stdout=subprocess.PIPE, text=True, bufsize=1,
+    )
     source = open(folder / "in", "wb", buffering=0)
     run.stdin.write("set b0 now 7\n")
     check(run.stdout.readline() == "taken 0\n", "the first reply")
@@ -245,7 +271,11 @@ def standard(program, folder):
 
 def two(program, folder):
     """While two sources are silent a line is answered, and one of them is closed."""
-    text = graph("byte", []).replace("]\nconnect", '    { name = "t", kind = "vector_source", type = "byte" },\n    { name = "o", kind = "vector_sink", type = "byte" },\n]\nconnect')
+    text = graph("byte", []).replace(
+        "]\nconnect",
+        '    { name = "t", kind = "vector_source", type = "byte" },\n    { name = "o", kind = "vector_sink", type = '
+        '"byte" },\n]\nconnect',
+    )
     (folder / "graph.toml").write_text(text.replace('"out" }]', '"out" }, { from = "t", to = "o" }]'), encoding="utf-8")
     os.mkfifo(folder / "t")
     live = Live(program, folder, "-i", "src=in", "-i", "t=t", "-o", "out=out", "-o", "o=o")
@@ -269,7 +299,10 @@ def soon(program, folder):
 
     best, times = 100.0, []
     for _ in range(STOPS):
-        run = subprocess.Popen([*program, "live", "-i", "src=/dev/zero", "-o", "out=/dev/null", "graph.toml"], cwd=folder, stdin=subprocess.PIPE, stdout=subprocess.PIPE, text=True, bufsize=1)
+        run = subprocess.Popen(
+            [*program, "live", "-i", "src=/dev/zero", "-o", "out=/dev/null", "graph.toml"], cwd=folder,
+            stdin=subprocess.PIPE, stdout=subprocess.PIPE, text=True, bufsize=1,
+        )
         # (the first rounds take their memory)
         for value in range(8):
             asked("set b0 now %d" % value, "taken ")

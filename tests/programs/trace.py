@@ -33,7 +33,12 @@ def events_by_track(trace):
         elif event["ph"] == "M":
             if (event["name"], event["args"]) != ("thread_sort_index", {"sort_index": track}):
                 wrong(f"another word on a track: {event}")
-        elif event["pid"] != 1 or event["cat"] not in ("turn", "wait") or event["ph"] not in ("X", "i") or event["ts"] < 0:
+        elif (
+            event["pid"] != 1
+            or event["cat"] not in ("turn", "wait")
+            or event["ph"] not in ("X", "i")
+            or event["ts"] < 0
+        ):
             wrong(f"another event: {event}")
         else:
             events[track].append(event)
@@ -82,7 +87,10 @@ def main(path, stats, most):
         wrong(f"other tracks: {names}")
     count, left_out = (trace["otherData"][key] for key in ("events", "left_out"))
     if sum(len(it) for it in events.values()) != count or count > int(most) or (left_out > 0 and count != int(most)):
-        wrong(f"{count} events, {left_out} left out, {sum(len(it) for it in events.values())} in the file, and room for {most}")
+        wrong(
+            f"{count} events, {left_out} left out, {sum(len(it) for it in events.values())} in the file, and room for "
+            f"{most}"
+        )
     for (track, name), block in zip(names.items(), times["blocks"]):
         check_events(block if left_out == 0 else None, name, events[track])
     if left_out == 0 and min(event["ts"] for it in events.values() for event in it) != 0:

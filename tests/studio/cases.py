@@ -14,7 +14,13 @@ import shown
 import turned
 import worked
 
-CASES = {it.__name__: it for it in [*guard.CASES, *runs.CASES, *shown.CASES, *turned.CASES, *edited.CASES, *worked.CASES, *receiver.CASES, *given.CASES, *looked.CASES]}
+CASES = {
+    it.__name__: it
+    for it in [
+        *guard.CASES, *runs.CASES, *shown.CASES, *turned.CASES, *edited.CASES, *worked.CASES, *receiver.CASES,
+        *given.CASES, *looked.CASES,
+    ]
+}
 
 if __name__ == "__main__":
     CASES[sys.argv[1]]()

@@ -25,12 +25,19 @@ def type_at(driver: Any, behind: str, typed: str) -> None:
     field = driver.find_element("css selector", TEXT)
     field.click()
     driver.execute_script(
-        "const it = document.querySelector(arguments[0]), at = it.value.indexOf(arguments[1]) + arguments[1].length; it.setSelectionRange(at, at)", TEXT, behind)
+        "const it = document.querySelector(arguments[0]), at = it.value.indexOf(arguments[1]) + arguments[1].length; "
+        "it.setSelectionRange(at, at)",
+        TEXT, behind,
+    )
     field.send_keys(typed)
 
 
 def drawn(driver: Any) -> list[str]:
-    return list(driver.execute_script("return [...document.querySelectorAll('#graph [data-block]')].map((it) => it.dataset.block)"))
+    return list(
+        driver.execute_script(
+            "return [...document.querySelectorAll('#graph [data-block]')].map((it) => it.dataset.block)"
+        )
+    )
 
 
 def opened(driver: Any, server: Server) -> None:
@@ -48,10 +55,19 @@ def faults() -> None:
         opened(driver, server)
         until("no fault", lambda: text_of(driver, "#explained") == "no faults")
         type_at(driver, "add_con", "<img src=x onerror=document.title=1>")
-        until("the fault", lambda: text_of(driver, "#explained").startswith("44 UnknownKind block 1\nline 3, column 28: there is no kind"))
-        assert text_of(driver, "#editor mark") == '"add_con<img src=x onerror=document.title=1>st"', text_of(driver, "#editor mark")
+        until(
+            "the fault",
+            lambda: text_of(driver, "#explained").startswith(
+                "44 UnknownKind block 1\nline 3, column 28: there is no kind"
+            ),
+        )
+        assert text_of(driver, "#editor mark") == '"add_con<img src=x onerror=document.title=1>st"', text_of(
+            driver, "#editor mark"
+        )
         assert driver.execute_script("return document.images.length") == 0 and "1" != driver.title
-        assert not driver.execute_script("return document.getElementById('old').hidden") and drawn(driver) == ["src", "add", "out"]
+        assert not driver.execute_script("return document.getElementById('old').hidden") and drawn(driver) == [
+            "src", "add", "out",
+        ]
         click(driver, "#undo")
         until("it is mended", lambda: text_of(driver, "#explained") == "no faults" and text_in(driver) == THROUGH)
         assert driver.execute_script("return document.getElementById('old').hidden")
@@ -60,7 +76,10 @@ def faults() -> None:
         until("a fault of a connection", lambda: text_of(driver, "#explained").startswith("2 UnknownBlock connect 0"))
         assert text_of(driver, "#editor mark") == '"add"', text_of(driver, "#editor mark")
         type_at(driver, 'name = "adder', Keys.BACKSPACE * 2)
-        until("it is mended as one types", lambda: text_of(driver, "#explained") == "no faults" and text_in(driver) == THROUGH)
+        until(
+            "it is mended as one types",
+            lambda: text_of(driver, "#explained") == "no faults" and text_in(driver) == THROUGH,
+        )
         assert text_of(driver, "#editor mark") == "" and drawn(driver) == ["src", "add", "out"]
 
 
@@ -87,9 +106,16 @@ def added_and_joined() -> None:
         until("a sink", lambda: drawn(driver)[-1] == "vector_sink1")
         join(driver, "add", "not1")
         until("a line", lambda: '{ from = "add", to = "not1" }' in text_in(driver))
-        until("it is drawn", lambda: driver.execute_script("return document.querySelectorAll('#graph path.line').length") == 3)
+        until(
+            "it is drawn",
+            lambda: driver.execute_script("return document.querySelectorAll('#graph path.line').length") == 3,
+        )
         join(driver, "not1", "vector_sink1")
-        until("no fault", lambda: text_of(driver, "#explained") == "no faults" and '{ from = "not1", to = "vector_sink1" }' in text_in(driver))
+        until(
+            "no fault",
+            lambda: text_of(driver, "#explained") == "no faults"
+            and '{ from = "not1", to = "vector_sink1" }' in text_in(driver),
+        )
         assert "the run is of another text" in text_of(driver, "#file-state")
         click(driver, "#apply")
         until("a plot more", lambda: driver.execute_script("return document.querySelectorAll('figure').length") == 2)
@@ -107,7 +133,9 @@ def added_and_joined() -> None:
         for _ in range(4):
             click(driver, "#redo")
         assert '{ from = "not1", to = "vector_sink1" }' in text_in(driver)
-        assert pathlib.Path(out).read_bytes() == SAW.tobytes() and pathlib.Path(out + ".2").read_bytes() == SAW.tobytes()
+        assert (
+            pathlib.Path(out).read_bytes() == SAW.tobytes() and pathlib.Path(out + ".2").read_bytes() == SAW.tobytes()
+        )
 
 
 def dropped() -> None:
@@ -119,7 +147,9 @@ def dropped() -> None:
         document.body.dispatchEvent(new DragEvent("drop", { dataTransfer: data, bubbles: true, cancelable: true }));
     """
     drawing = TOP / "examples/grc/rates.grc"
-    wanted = subprocess.run([TOP / "flow-from-grc", drawing], capture_output=True, check=True).stdout.decode().splitlines()
+    wanted = (
+        subprocess.run([TOP / "flow-from-grc", drawing], capture_output=True, check=True).stdout.decode().splitlines()
+    )
     folder, graph, _, _ = folder_with()
     with folder, Server(graph) as server, browser() as driver:
         opened(driver, server)
@@ -189,7 +219,10 @@ def texts() -> None:
         ('[[block]]\nname = "a"\n', '[[block]]\nname = "a"\n\n[[block]]\nname = "b"\nn = 1\ntaps = [1, -2]\n'),
         ("block = []\n", "block = [\n    %s,\n]\n" % written),
         ('block = [{ name = "]" }] # ]\n', 'block = [{ name = "]" },\n    %s,\n] # ]\n' % written),
-        ("connect = [[]]\nblock = [\n    1, # one\n]\n", "connect = [[]]\nblock = [\n    1, # one\n    %s,\n]\n" % written),
+        (
+            "connect = [[]]\nblock = [\n    1, # one\n]\n",
+            "connect = [[]]\nblock = [\n    1, # one\n    %s,\n]\n" % written,
+        ),
         ("block = [\n    1 # one\n]\n", "block = [\n    1, # one\n    %s,\n]\n" % written),
         ('[[feed]]\nblock = [1]\n', '[[feed]]\nblock = [1]\n\n[[block]]\nname = "b"\nn = 1\ntaps = [1, -2]\n'),
     ):
@@ -201,22 +234,31 @@ def texts() -> None:
             # (it is not joined yet)
             assert graph is not None and refused is not None and refused.number == 8, (kind.name, refused)
     settable = [name for name, it in KIND_ROWS.items() if it.setting]
-    assert settable == ["add_const", "multiply_const", "divide_const", "and_const", "or_const", "xor_const", "scale", "mute", "fir", "interp_fir"], settable
+    assert settable == [
+        "add_const", "multiply_const", "divide_const", "and_const", "or_const", "xor_const", "scale", "mute", "fir",
+        "interp_fir",
+    ], settable
     tables: list[dict[str, Any]] = [
         {"kind": "add_const", "type": "byte", "value": 7}, {"kind": "scale", "type": "short", "factor": -3, "shift": 1},
-        {"kind": "mute", "type": "int", "on": 1}, {"kind": "fir", "type": "short", "taps": [1, -2]}, {"kind": "repeat", "type": "short", "n": 2},
+        {"kind": "mute", "type": "int", "on": 1}, {"kind": "fir", "type": "short", "taps": [1, -2]},
+        {"kind": "repeat", "type": "short", "n": 2},
     ]
     shown = []
     for table in tables:
         text = ""
-        ends: list[dict[str, Any]] = [{"name": name, "kind": "vector_" + name, "type": table["type"]} for name in ("source", "sink")]
+        ends: list[dict[str, Any]] = [
+            {"name": name, "kind": "vector_" + name, "type": table["type"]} for name in ("source", "sink")
+        ]
         for block in (*ends, {"name": "it", **table}):
             text = edit.with_table(text, "block", block)
         for start, end in (("source", "it"), ("it", "sink")):
             text = edit.with_table(text, "connect", edit.connect_of(start, 0, end, 0))
         shown.append(graphs.GraphFile.of(text).shown()["blocks"][2]["setting"])
     ranges = [it and tuple(it.values()) for it in shown]
-    assert ranges == [("value", 0, 255, None, 7), ("factor", -32768, 32767, None, -3), ("on", 0, 1, None, 1), ("taps", -32768, 32767, 2, [1, -2]), None], ranges
+    assert ranges == [
+        ("value", 0, 255, None, 7), ("factor", -32768, 32767, None, -3), ("on", 0, 1, None, 1),
+        ("taps", -32768, 32767, 2, [1, -2]), None,
+    ], ranges
 
 
 def keys_and_contrast() -> None:
@@ -236,19 +278,34 @@ def keys_and_contrast() -> None:
         body.send_keys("s")
         until("a step", lambda: text_of(driver, ".told") == "items 0 to 0 of 1")
         body.send_keys("f")
-        assert driver.execute_script("return document.getElementById('plots').hidden && !document.getElementById('file').hidden")
+        assert driver.execute_script(
+            "return document.getElementById('plots').hidden && !document.getElementById('file').hidden"
+        )
         body.send_keys("p")
         plot = driver.find_element("css selector", "figure canvas")
         body.send_keys(Keys.SPACE)
         comes_to(driver, "done")
-        for key, told in (("h", "items 95,904 to 99,999"), (Keys.ARROW_LEFT, "items 95,392 to 99,487"), ("+", "items 96,416 to 98,463"), (Keys.END, "items 97,952 to 99,999")):
+        for key, told in (
+            ("h", "items 95,904 to 99,999"), (Keys.ARROW_LEFT, "items 95,392 to 99,487"),
+            ("+", "items 96,416 to 98,463"), (Keys.END, "items 97,952 to 99,999"),
+        ):
             plot.send_keys(key)
             until(told, lambda: text_of(driver, ".told") == told + " of 100,000")
         for _ in ("one theme", "the other"):
             body.send_keys("d")
             style = "return getComputedStyle(document.documentElement).getPropertyValue('--' + arguments[0]).trim()"
-            colour = {it: driver.execute_script(style, it) for it in ("text", "faint", "accent", "tag", "bad", "good", "second", "paper", "ground", "box", "bad-ground", "on-accent")}
-            pairs = [(text, under) for text in ("text", "faint", "tag", "bad", "good", "second", "accent") for under in ("paper", "ground", "box")]
+            colour = {
+                it: driver.execute_script(style, it)
+                for it in (
+                    "text", "faint", "accent", "tag", "bad", "good", "second", "paper", "ground", "box", "bad-ground",
+                    "on-accent",
+                )
+            }
+            pairs = [
+                (text, under)
+                for text in ("text", "faint", "tag", "bad", "good", "second", "accent")
+                for under in ("paper", "ground", "box")
+            ]
             for text, under in [*pairs, ("bad", "bad-ground"), ("on-accent", "accent")]:
                 low, high = sorted((light(colour[text]), light(colour[under])))
                 assert (high + 0.05) / (low + 0.05) >= 4.5, (text, under, colour)

@@ -44,7 +44,10 @@ def drops_items() -> None:
         assert magbelu.script(THROUGH, lines).splitlines()[-1].split() == ["read", "3", "1", "2", "-1"], lines
         driver.execute_script(DROP, "#graph [data-block='add'] rect", [1, 0])
         until("add is no source", lambda: "21 NotSource add" in text_of(driver, "#fault"))
-        assert pathlib.Path(out).read_bytes() == SAW.tobytes() and pathlib.Path(out + ".2").read_bytes() == b"\1\0\2\0\377\377"
+        assert (
+            pathlib.Path(out).read_bytes() == SAW.tobytes()
+            and pathlib.Path(out + ".2").read_bytes() == b"\1\0\2\0\377\377"
+        )
 
 
 async def fed_anew(server: Server) -> None:
@@ -86,8 +89,9 @@ def input_guarded() -> None:
             return found
 
         for path, origin, wanted in (
-            ("/wrong/input/src", here, 403), (own + "input/src", "http://magbelu.example", 403), (own + "input/src", "", 403),
-            (own + "input/none", here, 409), (own + "input/out", here, 409), (own + "input/src", here, 204),
+            ("/wrong/input/src", here, 403), (own + "input/src", "http://magbelu.example", 403),
+            (own + "input/src", "", 403), (own + "input/none", here, 409), (own + "input/out", here, 409),
+            (own + "input/src", here, 204),
         ):
             assert status(path, origin) == wanted, (path, origin)
 
@@ -120,14 +124,22 @@ def watches() -> None:
     so does the page."""
     text = CHAIN
     folder, graph, items, _ = folder_with(text, array.array("h", [1, 2, 3]).tobytes())
-    with folder, Server("-i", "src=" + items, "-w", "src=numbers", "-w", "src=bits", "-w", "out=spectrum", graph) as server, browser() as driver:
+    with folder, Server(
+        "-i", "src=" + items, "-w", "src=numbers", "-w", "src=bits", "-w", "out=spectrum", graph
+    ) as server, browser() as driver:
         driver.get(server.address)
         comes_to(driver, "done")
         kinds = "return [...document.querySelectorAll('figure')].map((it) => [it.dataset.sink, it.querySelector('select.kind').value])"
-        assert driver.execute_script(kinds) == [["src_1", "numbers"], ["src_1", "bits"], ["out", "spectrum"]], driver.execute_script(kinds)
+        assert driver.execute_script(kinds) == [
+            ["src_1", "numbers"], ["src_1", "bits"], ["out", "spectrum"],
+        ], driver.execute_script(kinds)
         until("what the source gives", lambda: numbers_of(driver, "src_1") == [1, 2, 3])
         assert pathlib.Path(graph).read_text() == text and text_of(driver, "#file-state").endswith("not saved")
-        assert urllib.request.urlopen(server.address + "script").read().startswith(b"# The run is of another text than the file")
+        assert (
+            urllib.request.urlopen(server.address + "script")
+            .read()
+            .startswith(b"# The run is of another text than the file")
+        )
         click(driver, "#graph [data-block='add']")
         click(driver, "#watch")
         until("a plot more", lambda: ["add_1", "levels"] in driver.execute_script(kinds))
@@ -136,7 +148,9 @@ def watches() -> None:
         click(driver, "#graph [data-block='more']")
         click(driver, "#watch")
         until("it is watched already", lambda: text_of(driver, "#fault") == "out shows it")
-    for word, wanted in (("src", 2), ("src=none", 2), ("=levels", 2), ("src:x=levels", 2), ("none=levels", 1), ("src:1=levels", 1)):
+    for word, wanted in (
+        ("src", 2), ("src=none", 2), ("=levels", 2), ("src:x=levels", 2), ("none=levels", 1), ("src:1=levels", 1),
+    ):
         with folder_with()[0] as at, Server("-w", word, str(pathlib.Path(at) / "graph.toml")) as server:
             assert server.process.wait(PATIENCE) == wanted, word
 

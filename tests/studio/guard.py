@@ -10,7 +10,10 @@ from typing import Optional
 from browser import Server, TOP
 
 ECHO = str(TOP / "examples/echo/graph.toml")
-UPGRADE = {"Connection": "Upgrade", "Upgrade": "websocket", "Sec-WebSocket-Version": "13", "Sec-WebSocket-Key": "AAAAAAAAAAAAAAAAAAAAAA=="}
+UPGRADE = {
+    "Connection": "Upgrade", "Upgrade": "websocket", "Sec-WebSocket-Version": "13",
+    "Sec-WebSocket-Key": "AAAAAAAAAAAAAAAAAAAAAA==",
+}
 
 
 def status(server: Server, path: str, headers: Optional[dict[str, str]] = None, method: str = "GET") -> int:
@@ -29,7 +32,10 @@ def wrong_token() -> None:
     with Server(ECHO) as server:
         own = own_path(server)
         assert len(own) > 30, "a token that can be guessed: %r" % own
-        for path in ("/", "/link", "/script", "//", "//link", "/wrong/", "/wrong/main.js", "/wrong/link", "/wrong/script", own[:-2] + "/", own[:-1] + "x/"):
+        for path in (
+            "/", "/link", "/script", "//", "//link", "/wrong/", "/wrong/main.js", "/wrong/link", "/wrong/script",
+            own[:-2] + "/", own[:-1] + "x/",
+        ):
             assert status(server, path) == 403, path
         assert status(server, own) == 200 and status(server, own + "main.js") == 200
         for path in ("nothing.js", "../server.py", "%2e%2e/server.py", "..%2fserver.py"):
@@ -67,11 +73,17 @@ def this_machine_alone() -> None:
 
 def refused_graphs() -> None:
     for words, line, wanted in (
-        (["-i", "none=/dev/null", ECHO], "magbelu-studio: refused 20 NoSuchBlock none: no block of the graph has this name", 1),
+        (
+            ["-i", "none=/dev/null", ECHO],
+            "magbelu-studio: refused 20 NoSuchBlock none: no block of the graph has this name", 1,
+        ),
         (["-o", "late=/dev/null", ECHO], "magbelu-studio: refused 22 NotSink late: the block is no vector_sink", 1),
         (["-i", "src=/nowhere", ECHO], "magbelu-studio: [Errno 2] No such file or directory: '/nowhere'", 4),
         (["/nowhere.toml"], "magbelu-studio: [Errno 2] No such file or directory: '/nowhere.toml'", 4),
-        (["-i", "src=a", "-i", "src=b", ECHO], "magbelu-studio: refused a block, and `-`, stand once among the inputs and once among the outputs", 1),
+        (
+            ["-i", "src=a", "-i", "src=b", ECHO],
+            "magbelu-studio: refused a block, and `-`, stand once among the inputs and once among the outputs", 1,
+        ),
     ):
         with Server(*words) as server:
             assert (server.line, server.process.wait(20)) == (line, wanted), (server.line, server.process.poll())

@@ -41,7 +41,14 @@ def looks(server: Server, driver: Any, seconds: float) -> list[int]:
         more, now, work = asyncio.run(held(server)), time.monotonic(), server.seconds()
         found.append(server.memory())
         says = "%5.0f s: %5.2f million items a second, %d MiB, %.0f ns an item; %s, %s"
-        print(says % (now - began, (more - count) / (now - then) / 1e6, found[-1] >> 10, (work - worked) / (more - count) * 1e9, text_of(driver, ".told"), text_of(driver, ".missed")), flush=True)
+        print(
+            says
+            % (
+                now - began, (more - count) / (now - then) / 1e6, found[-1] >> 10,
+                (work - worked) / (more - count) * 1e9, text_of(driver, ".told"), text_of(driver, ".missed"),
+            ),
+            flush=True,
+        )
         count, then, worked = more, now, work
     return found
 
@@ -49,7 +56,9 @@ def looks(server: Server, driver: Any, seconds: float) -> list[int]:
 def long_run(seconds: float, items: int) -> None:
     folder, graph, _, _ = folder_with()
     words = [it for view in SHOWN for it in ("-w", "out=" + view)]
-    with folder, browser() as driver, Server("-i", "src=-", "-o", "out=-", "--rate", str(items), *words, graph, stdin=subprocess.PIPE) as server:
+    with folder, browser() as driver, Server(
+        "-i", "src=-", "-o", "out=-", "--rate", str(items), *words, graph, stdin=subprocess.PIPE
+    ) as server:
         output = Compared(server)
         for it in (Feeder(server), output):
             it.start()
@@ -62,7 +71,10 @@ def long_run(seconds: float, items: int) -> None:
         count, took = asyncio.run(held(server)), time.monotonic() - began
         assert server.end() == 0
         output.join(PATIENCE)
-    print("%d items in some %.0f seconds, %d bytes of -o, of which %d are right; memory from %d to %d KiB" % (count, took, output.bytes, output.right, min(found), max(found)))
+    print(
+        "%d items in some %.0f seconds, %d bytes of -o, of which %d are right; memory from %d to %d KiB"
+        % (count, took, output.bytes, output.right, min(found), max(found))
+    )
     assert output.bytes == output.right == 2 * count
     assert max(found[len(found) // 4 :]) < found[len(found) // 4] + 4096, found
 

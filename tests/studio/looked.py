@@ -31,13 +31,21 @@ def drawn_as_draw() -> None:
     lines = "return [...document.querySelectorAll('#graph path.line > title')].map((it) => it.textContent)"
     folder, _, items, _ = folder_with(items=recording(1))
     with folder, browser() as driver:
-        for path, words in ((ECHO / "graph.toml", []), (TOP / "examples/receiver/receiver.toml", ["-i", "iq=" + items])):
+        for path, words in (
+            (ECHO / "graph.toml", []),
+            (TOP / "examples/receiver/receiver.toml", ["-i", "iq=" + items]),
+        ):
             drawing = magbelu.Stream(path.read_bytes()).draw()
             with Server(*words, str(path)) as server:
                 driver.get(server.address)
                 comes_to(driver, "done")
-                assert [tuple(it) for it in driver.execute_script(blocks)] == [(it[0], *it[1:]) for it in NODE.findall(drawing)], driver.execute_script(blocks)
-                told = [re.sub(r", up to [\d,]+ of ([\d,]+) items in its buffer", r" \1", it).replace(",", "") for it in driver.execute_script(lines)]
+                assert [tuple(it) for it in driver.execute_script(blocks)] == [
+                    (it[0], *it[1:]) for it in NODE.findall(drawing)
+                ], driver.execute_script(blocks)
+                told = [
+                    re.sub(r", up to [\d,]+ of ([\d,]+) items in its buffer", r" \1", it).replace(",", "")
+                    for it in driver.execute_script(lines)
+                ]
                 assert told == ["%s %s to %s %s: %s %s" % it for it in EDGE.findall(drawing)] and len(told) > 2, told
 
 
@@ -49,8 +57,12 @@ def parameters_shown() -> None:
         driver.get(server.address)
         comes_to(driver, "done")
         click(driver, "#graph [data-block='low']")
-        assert text_of(driver, "#parameters h2") == "low" and text_of(driver, "#parameters p") == "fir", text_of(driver, "#parameters")
-        assert driver.execute_script(rows) == [["type", "short"], ["taps", "1 2 3"], ["shift", "1"]], driver.execute_script(rows)
+        assert text_of(driver, "#parameters h2") == "low" and text_of(driver, "#parameters p") == "fir", text_of(
+            driver, "#parameters"
+        )
+        assert driver.execute_script(rows) == [
+            ["type", "short"], ["taps", "1 2 3"], ["shift", "1"],
+        ], driver.execute_script(rows)
         assert text_of(driver, "#parameters .note") == "fires once in an iteration"
 
 
@@ -62,14 +74,19 @@ def waits_shown() -> None:
         comes_to(driver, "running")
         for block, says in (("src", "waits for input"), ("add", "waits for src"), ("out", "waits for add")):
             until(says, lambda: text_of(driver, "#graph [data-block='%s'] .note:not(.mark)" % block) == says)
-        until("the input limits the run", lambda: text_of(driver, "#graph [data-block='src'] .mark") == "limits the run")
+        until(
+            "the input limits the run", lambda: text_of(driver, "#graph [data-block='src'] .mark") == "limits the run"
+        )
 
 
 def pointed() -> None:
     """At the pointer stand the item and its tag."""
     from selenium.webdriver.common.action_chains import ActionChains
 
-    text = THROUGH + '[[feed]]\nsource = "src"\nitems = [10, 20, 30, 40, 50]\ntags = [{ at = 3, key = "burst", value = 7 }]\n'
+    text = (
+        THROUGH
+        + '[[feed]]\nsource = "src"\nitems = [10, 20, 30, 40, 50]\ntags = [{ at = 3, key = "burst", value = 7 }]\n'
+    )
     folder, graph, _, _ = folder_with(text)
     with folder, Server(graph) as server, browser() as driver:
         driver.get(server.address)
@@ -99,7 +116,13 @@ def zoomed_and_held() -> None:
         # (four fifths of 4,096, the last ones)
         until("fewer items", lambda: text_of(driver, ".told") == "items 96,723 to 99,999 of 100,000")
         ActionChains(driver).click_and_hold(canvas).move_by_offset(100, 0).release().perform()
-        until("it is held", lambda: driver.execute_script("return document.querySelector('figure button[aria-pressed]').getAttribute('aria-pressed')") == "true")
+        until(
+            "it is held",
+            lambda: driver.execute_script(
+                "return document.querySelector('figure button[aria-pressed]').getAttribute('aria-pressed')"
+            )
+            == "true",
+        )
         wanted = 96_723 - 100 * 3276 / (canvas.size["width"] - LEFT - RIGHT)
         until("it moved with the pointer", lambda: abs(first_shown(driver) - wanted) <= 2)
 
@@ -119,7 +142,9 @@ def undrawn_told() -> None:
         driver.find_element("css selector", "body").send_keys(" ")
         comes_to(driver, "paused")
         until("the last frame", lambda: text_of(driver, ".told").split()[-1].replace(",", "").isdecimal())
-        missed, held = (int(text_of(driver, it).split()[at].replace(",", "")) for it, at in ((".missed", 0), (".told", -1)))
+        missed, held = (
+            int(text_of(driver, it).split()[at].replace(",", "")) for it, at in ((".missed", 0), (".told", -1))
+        )
         assert 0 < missed < held, (missed, held)
 
 

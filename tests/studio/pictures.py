@@ -19,7 +19,9 @@ def signal(at: pathlib.Path) -> None:
         recording = folder + "/recording.s16"
         subprocess.run([SIGNAL / "make.py", "recording", recording], check=True)
         words = [it for view in ("levels", "spectrum", "waterfall") for it in ("-w", "out=" + view)]
-        with Server("--paused", "-i", "adc=" + recording, "--rate", "20000", *words, str(SIGNAL / "graph.toml")) as server, browser(1280, 1010) as driver:
+        with Server(
+            "--paused", "-i", "adc=" + recording, "--rate", "20000", *words, str(SIGNAL / "graph.toml")
+        ) as server, browser(1280, 1010) as driver:
             driver.get(server.address)
             comes_to(driver, "paused")
             click(driver, "#graph [data-block=low]")
@@ -37,7 +39,9 @@ def file(at: pathlib.Path) -> None:
         driver.find_element("css selector", "[data-shows=file]").click()
         field = driver.find_element("css selector", "#editor textarea")
         field.click()
-        driver.execute_script("const at = arguments[0].value.indexOf('delay') + 3; arguments[0].setSelectionRange(at, at)", field)
+        driver.execute_script(
+            "const at = arguments[0].value.indexOf('delay') + 3; arguments[0].setSelectionRange(at, at)", field
+        )
         field.send_keys("l")
         time.sleep(2)
         driver.save_screenshot(str(at / "studio_file.png"))

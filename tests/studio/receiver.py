@@ -36,7 +36,9 @@ def recording(repeats: int) -> bytes:
     bits, and their frames."""
     import magbelu
 
-    (sent,), _ = magbelu.run_items((EXAMPLE / "sender.toml").read_bytes(), [("text", (EXAMPLE / "text.txt").read_bytes())], ["bits"])
+    (sent,), _ = magbelu.run_items(
+        (EXAMPLE / "sender.toml").read_bytes(), [("text", (EXAMPLE / "text.txt").read_bytes())], ["bits"]
+    )
     phase, one = 0.0, bytearray([128, 128]) * BEFORE
     for bit in [1, 0] * 64 + list(sent):
         for _ in range(SAMPLES):
@@ -75,7 +77,9 @@ def turn(driver: Any, taps: str) -> int:
     for name in ("low_i", "low_q"):
         row = ".setting[data-block='%s'] " % name
         field = driver.find_element("css selector", row + "textarea")
-        driver.execute_script("arguments[0].value = arguments[1]; arguments[0].dispatchEvent(new Event('input'))", field, taps)
+        driver.execute_script(
+            "arguments[0].value = arguments[1]; arguments[0].dispatchEvent(new Event('input'))", field, taps
+        )
         click(driver, row + "button")
         until("an answer", lambda: text_of(driver, row + "output").startswith("from item "))
     return int(text_of(driver, row + "output").split()[2].replace(",", ""))
@@ -122,7 +126,9 @@ def receives_text() -> None:
     folder = tempfile.TemporaryDirectory()
     path = pathlib.Path(folder.name) / "recording.u8"
     path.write_bytes(recording(2))
-    with folder, Server("-i", "iq=%s" % path, "-w", "bits=numbers", str(EXAMPLE / "receiver.toml")) as server, browser() as driver:
+    with folder, Server(
+        "-i", "iq=%s" % path, "-w", "bits=numbers", str(EXAMPLE / "receiver.toml")
+    ) as server, browser() as driver:
         driver.get(server.address)
         comes_to(driver, "done")
         bits = urllib.request.urlopen(server.address + "items/bits").read()

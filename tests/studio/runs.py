@@ -157,7 +157,9 @@ async def stepping(server: Server) -> None:
         wrong: list[tuple[str, Any]] = [("items", 0), ("items", True), ("to", -1), ("items", "5")]
         for key, value in wrong:
             assert "refused" in await page.ask(do="run", **{key: value}), (key, value)
-        assert "refused" in await page.ask(do="__init__") and "refused" in await page.ask(do="view", view="a", sink="out", span=0, width=3)
+        assert "refused" in await page.ask(do="__init__") and "refused" in await page.ask(
+            do="view", view="a", sink="out", span=0, width=3
+        )
 
 
 def steps() -> None:
@@ -165,7 +167,9 @@ def steps() -> None:
     folder, graph, items, out = folder_with()
     with folder, Server("--paused", "-i", "src=" + items, "-o", "out=" + out, graph) as server:
         asyncio.run(asyncio.wait_for(stepping(server), PATIENCE))
-        assert pathlib.Path(out).read_bytes() == SAW[:10_700].tobytes(), "what the first run wrote is not there any more"
+        assert (
+            pathlib.Path(out).read_bytes() == SAW[:10_700].tobytes()
+        ), "what the first run wrote is not there any more"
         assert pathlib.Path(out + ".2").read_bytes() == b""
 
 
@@ -294,7 +298,9 @@ def memory() -> None:
     stays as it is, and an output gets them all."""
     items = int(os.environ.get("STUDIO_ITEMS", "100_000_000"))
     folder, graph, _, _ = folder_with()
-    with folder, Server("--paused", "-i", "src=-", "-o", "out=-", "--rate", "10000000", graph, stdin=subprocess.PIPE) as server:
+    with folder, Server(
+        "--paused", "-i", "src=-", "-o", "out=-", "--rate", "10000000", graph, stdin=subprocess.PIPE
+    ) as server:
         output = Compared(server)
         for it in (Feeder(server), output):
             it.start()
@@ -331,7 +337,10 @@ async def ran(server: Server, takes_none: bool) -> tuple[int, float]:
             first = held if first < 0 else first
         await page.ask(do="pause")
         run = await page.comes_to("paused")
-        print("%.0f million items a second" % ((run["held"]["out"] - first) / (time.monotonic() - began) / 1e6), "behind a page that takes no frames" * takes_none)
+        print(
+            "%.0f million items a second" % ((run["held"]["out"] - first) / (time.monotonic() - began) / 1e6),
+            "behind a page that takes no frames" * takes_none,
+        )
         return run["held"]["out"] - first, server.seconds() - seconds
 
 

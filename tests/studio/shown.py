@@ -14,7 +14,11 @@ ECHO = TOP / "examples/echo"
 
 def logged(driver: Any) -> list[Any]:
     """What the browser has to complain of, but for a server that is away."""
-    return [it["message"] for it in driver.get_log("browser") if "ERR_CONNECTION" not in it["message"] and "WebSocket" not in it["message"]]
+    return [
+        it["message"]
+        for it in driver.get_log("browser")
+        if "ERR_CONNECTION" not in it["message"] and "WebSocket" not in it["message"]
+    ]
 
 
 def sinks_as_run() -> None:
@@ -22,7 +26,10 @@ def sinks_as_run() -> None:
     wanted = {}
     for line in (ECHO / "expected_run").read_text().splitlines()[:-1]:
         words = line.split()
-        wanted[words[1]] = ([int(it) for it in words[3:] if it[0] != "@"], [it[1:].split("/")[0].replace(":", ": ") for it in words if it[0] == "@"])
+        wanted[words[1]] = (
+            [int(it) for it in words[3:] if it[0] != "@"],
+            [it[1:].split("/")[0].replace(":", ": ") for it in words if it[0] == "@"],
+        )
     with Server(str(ECHO / "graph.toml")) as server, browser() as driver:
         driver.get(server.address)
         comes_to(driver, "done")
@@ -83,18 +90,32 @@ def many_blocks() -> None:
     """254 blocks are drawn, each with its line, and none lies on another."""
     names = ["src", *("add%d" % it for it in range(252)), "out"]
     kinds = {"src": "vector_source", "out": "vector_sink"}
-    blocks = ['{ name = "%s", kind = "%s", type = "short"%s }' % (it, kinds.get(it, "add_const"), "" if it in kinds else ", value = 1") for it in names]
+    blocks = [
+        '{ name = "%s", kind = "%s", type = "short"%s }'
+        % (it, kinds.get(it, "add_const"), "" if it in kinds else ", value = 1")
+        for it in names
+    ]
     connects = ['{ from = "%s", to = "%s" }' % it for it in zip(names, names[1:])]
-    folder, graph, items, _ = folder_with("block = [%s]\nconnect = [%s]\n" % (", ".join(blocks), ", ".join(connects)), SAW[:600].tobytes())
+    folder, graph, items, _ = folder_with(
+        "block = [%s]\nconnect = [%s]\n" % (", ".join(blocks), ", ".join(connects)), SAW[:600].tobytes()
+    )
     with folder, Server("-i", "src=" + items, graph) as server, browser(2560, 1400) as driver:
         driver.get(server.address)
         comes_to(driver, "done")
         assert driver.execute_script("return document.querySelectorAll('#graph .block').length") == 254
         assert driver.execute_script("return document.querySelectorAll('#graph path.line').length") == 253
-        boxes = driver.execute_script("return [...document.querySelectorAll('#graph rect')].map((it) => ['x', 'y', 'width', 'height'].map((key) => Number(it.getAttribute(key))))")
+        boxes = driver.execute_script(
+            "return [...document.querySelectorAll('#graph rect')].map((it) => ['x', 'y', 'width', 'height'].map((key) "
+            "=> Number(it.getAttribute(key))))"
+        )
         for at, (x, y, width, height) in enumerate(boxes):
             for other in boxes[:at]:
-                assert x + width <= other[0] or other[0] + other[2] <= x or y + height <= other[1] or other[1] + other[3] <= y
+                assert (
+                    x + width <= other[0]
+                    or other[0] + other[2] <= x
+                    or y + height <= other[1]
+                    or other[1] + other[3] <= y
+                )
         as_numbers(driver, "out")
         until("the items", lambda: numbers_of(driver, "out") == [it + 252 for it in SAW[88:600]])
 

@@ -33,7 +33,9 @@ class SocketPage:
             (length,) = struct.unpack_from("<I", message.data)
             head = json.loads(message.data[4 : 4 + length])
             count = (len(message.data) - 4 - length) // 4
-            self.frames.setdefault(head["view"], []).append((head, list(struct.unpack_from("<%di" % count, message.data, 4 + length))))
+            self.frames.setdefault(head["view"], []).append(
+                (head, list(struct.unpack_from("<%di" % count, message.data, 4 + length)))
+            )
         elif message.type == aiohttp.WSMsgType.TEXT:
             told = json.loads(message.data)
             self.parts.update({("reply", told["reply"]): told} if "reply" in told else told)

@@ -70,7 +70,9 @@ async def two_sinks(server: Server) -> None:
         head, numbers = await page.frame("a", 0)
         # (1 x[n] + 2 x[n-1] + 3 x[n-2], halved, and a half is rounded up: of 2, 3 .. 6 the raw items, then 2, 5, 8 ..)
         assert (head["first"], numbers) == (2, [2, 3, 4, 5, 6, 2, 5, 8, 11, 14]), (head, numbers)
-        assert (await page.ask(do="view", view="b", sink="raw", other=7, span=5, width=10))["refused"] == "key and other are texts"
+        assert (await page.ask(do="view", view="b", sink="raw", other=7, span=5, width=10))[
+            "refused"
+        ] == "key and other are texts"
 
 
 def items_over_items() -> None:
@@ -88,11 +90,15 @@ async def triggered(server: Server) -> None:
             head, _ = await page.frame(key, 1000)
             # (a tag stands a quarter behind the left side; without one the last items are shown)
             assert head["start"] == (600 if offset is None else offset - 100), head
-            assert head["keys"] == ["a", "b"] and [it for it in head["tags"] if it[0] == offset] == ([[offset, key, "7", 0]] if offset else []), head
+            assert head["keys"] == ["a", "b"] and [it for it in head["tags"] if it[0] == offset] == (
+                [[offset, key, "7", 0]] if offset else []
+            ), head
 
 
 def trigger() -> None:
-    tags = ", ".join('{ at = %d, key = "%s", value = 7 }' % it for it in ((100, "a"), (300, "b"), (600, "a"), (800, "a")))
+    tags = ", ".join(
+        '{ at = %d, key = "%s", value = 7 }' % it for it in ((100, "a"), (300, "b"), (600, "a"), (800, "a"))
+    )
     text = THROUGH + '[[feed]]\nsource = "src"\nitems = [%s]\ntags = [%s]\n' % (", ".join(["0"] * 1000), tags)
     folder, graph, _, _ = folder_with(text)
     with folder, Server(graph) as server:
@@ -121,12 +127,19 @@ def dragged() -> None:
         comes_to(driver, "running")
         driver.execute_async_script(drag)
         until("the last setting", lambda: text_of(driver, "#log li").startswith("add 1,000 from item "))
-        assert driver.execute_script("return document.querySelector('.setting[data-block=add] input[type=number]').value") == "1000"
+        assert (
+            driver.execute_script("return document.querySelector('.setting[data-block=add] input[type=number]').value")
+            == "1000"
+        )
         count = driver.execute_script("return document.querySelectorAll('#log li').length")
         assert 2 <= count <= 200, count
         driver.get(server.address)
         until("the log is there again", lambda: text_of(driver, "#log li").startswith("add 1,000 from item "))
-        until("the slider has its place", lambda: driver.execute_script("return document.querySelector('.setting input[type=range]').value") == "1000")
+        until(
+            "the slider has its place",
+            lambda: driver.execute_script("return document.querySelector('.setting input[type=range]').value")
+            == "1000",
+        )
 
 
 async def logged_settings(server: Server) -> list[Any]:
@@ -153,7 +166,9 @@ def thousand() -> None:
         })();
     """
     folder, graph, items, out = folder_with(items=SAW.tobytes() * 10)
-    with folder, Server("-i", "src=" + items, "-o", "out=" + out, "--rate", "10000", graph) as server, browser() as driver:
+    with folder, Server(
+        "-i", "src=" + items, "-o", "out=" + out, "--rate", "10000", graph
+    ) as server, browser() as driver:
         driver.set_script_timeout(2 * PATIENCE)
         driver.get(server.address)
         comes_to(driver, "running")
@@ -204,7 +219,9 @@ def taps() -> None:
         # (2 x[n] halved is x[n])
         assert got[50_000:60_000].tolist() == list(SAW[50_000:60_000]) and not any(got[60_000:])
         x = SAW[49_000:50_000]
-        assert got[49_002:50_000].tolist() == [(x[at] + 2 * x[at - 1] + 3 * x[at - 2] + 1) >> 1 for at in range(2, 1000)]
+        assert got[49_002:50_000].tolist() == [
+            (x[at] + 2 * x[at - 1] + 3 * x[at - 2] + 1) >> 1 for at in range(2, 1000)
+        ]
 
 
 def transforms() -> None:
@@ -225,7 +242,13 @@ def transforms() -> None:
         peak, count, level, floor, low, middle, high, one, other = driver.execute_async_script(ask)
         assert (peak, count) == (100, 513) and abs(level) < 0.01 and floor < -100, (peak, count, level, floor)
         # (1 + z over half a turn: 2, the root of 2, 0)
-        assert abs(low - 6.0206) < 0.001 and abs(middle - 3.0103) < 0.001 and high < -100 and abs(one) < 1e-9 and abs(other) < 1e-9
+        assert (
+            abs(low - 6.0206) < 0.001
+            and abs(middle - 3.0103) < 0.001
+            and high < -100
+            and abs(one) < 1e-9
+            and abs(other) < 1e-9
+        )
 
 
 def all_views() -> None:
@@ -238,7 +261,13 @@ def all_views() -> None:
         click(driver, "#run")
         for name in ("levels", "bits", "spectrum", "waterfall", "scatter"):
             choose(driver, kind, name)
-            until("%s is drawn" % name, lambda: driver.execute_script("return document.querySelector(\"figure[data-sink='raw'] .told\").textContent") and colours_on(driver) > 3)
+            until(
+                "%s is drawn" % name,
+                lambda: driver.execute_script(
+                    "return document.querySelector(\"figure[data-sink='raw'] .told\").textContent"
+                )
+                and colours_on(driver) > 3,
+            )
             time.sleep(0.5)
         faults = [it["message"] for it in driver.get_log("browser") if it["level"] == "SEVERE"]
         assert not faults, faults

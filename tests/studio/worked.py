@@ -94,10 +94,15 @@ async def worked(server: Server) -> None:
         works = run["works"]["blocks"]
         assert abs(sum(it["share"] for it in works.values()) - 1) < 1e-9, works
         # (of each item that is fed: a tenth of them in the filter's output, but for what lay in its buffers)
-        wanted: list[tuple[str, list[float], list[float]]] = [("src", [], [1]), ("add", [1], [1]), ("low", [1], [0.1]), ("out", [0.1], [])]
+        wanted: list[tuple[str, list[float], list[float]]] = [
+            ("src", [], [1]), ("add", [1], [1]), ("low", [1], [0.1]), ("out", [0.1], []),
+        ]
         for name, takes, gives in wanted:
             got = works[name]["takes"] + works[name]["gives"]
-            assert len(got) == len(takes + gives) and all(abs(it - by) < 0.01 for it, by in zip(got, takes + gives)), (name, works[name])
+            assert len(got) == len(takes + gives) and all(abs(it - by) < 0.01 for it, by in zip(got, takes + gives)), (
+                name,
+                works[name],
+            )
         fills = run["works"]["fills"]
         assert [room for _, room in fills] == [4096] * 3 and all(0 < held <= 4096 for held, _ in fills), fills
         # (200 products for each item that the filter gives, and one sum for each that it takes)
@@ -150,7 +155,9 @@ async def firing(server: Server) -> None:
         assert await fires("src", 1) == fired(1, [], [[90_000, 1]], "feed", None)
         await page.ask(do="run")
         await page.comes_to("done")
-        assert (await page.ask(do="fire", block="add"))["refused"] == "a block fires by itself only while the run is paused"
+        assert (await page.ask(do="fire", block="add"))[
+            "refused"
+        ] == "a block fires by itself only while the run is paused"
 
 
 async def held(page: SocketPage, count: int) -> None:
@@ -174,7 +181,8 @@ def firings_shown() -> None:
         comes_to(driver, "paused")
         choose(driver, "figure[data-sink='out'] select.kind", "numbers")
         for block, count, says in (
-            ("src", 2, "fired 2 times; gave items 0 to 1 of output 0"), ("add", 1, "fired 1 time; took item 0 of input 0; gave item 0 of output 0"),
+            ("src", 2, "fired 2 times; gave items 0 to 1 of output 0"),
+            ("add", 1, "fired 1 time; took item 0 of input 0; gave item 0 of output 0"),
             ("out", 5, "fired 1 time; took item 0 of input 0; it waits for items at input 0"),
             ("add", 1, "fired 1 time; took item 1 of input 0; gave item 1 of output 0; it waits for items at input 0"),
         ):
@@ -203,16 +211,28 @@ def works_shown() -> None:
         driver.get(server.address)
         comes_to(driver, "running")
         until("the filter limits the run", lambda: text_of(driver, mark % "low") == "limits the run")
-        assert driver.execute_script("return [...document.querySelectorAll('#graph .limits')].map((it) => it.dataset.block)") == ["low"]
-        until("items a second, and a share", lambda: "/s, " in text_of(driver, note % "low") and text_of(driver, note % "low").endswith(" %"))
+        assert driver.execute_script(
+            "return [...document.querySelectorAll('#graph .limits')].map((it) => it.dataset.block)"
+        ) == ["low"]
+        until(
+            "items a second, and a share",
+            lambda: "/s, " in text_of(driver, note % "low") and text_of(driver, note % "low").endswith(" %"),
+        )
         click(driver, "#graph [data-block='low']")
-        until("what it takes and gives", lambda: all(it in text_of(driver, "#works") for it in ("takes", "gives", "share of the work", "of 4,096 items")))
+        until(
+            "what it takes and gives",
+            lambda: all(
+                it in text_of(driver, "#works") for it in ("takes", "gives", "share of the work", "of 4,096 items")
+            ),
+        )
         fill(driver, "#rate", "10000")
         until("the pace limits the run", lambda: text_of(driver, mark % "src") == "limits the run")
         until("ten thousand a second", lambda: 8_000 < a_second(text_of(driver, note % "src")) < 12_000)
         click(driver, "#graph [data-block='src']")
         until("that it is the pace", lambda: text_of(driver, "#works").endswith("the pace limits the run"))
-        assert driver.execute_script("return [...document.querySelectorAll('#graph .limits')].map((it) => it.dataset.block)") == ["src"]
+        assert driver.execute_script(
+            "return [...document.querySelectorAll('#graph .limits')].map((it) => it.dataset.block)"
+        ) == ["src"]
 
 
 CASES = [counts, works, fires, firings_shown, works_shown]
