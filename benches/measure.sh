@@ -1,6 +1,7 @@
 #!/usr/bin/env bash
-# measure.sh [--cpu LEVEL] PROGRAM [PART]: proves a program of benches/ with the crates below it, builds it as LLVM compiles it for processors of that level, as x86-64-v3,
-# and prints what it measures, or that part of it. That happens in a copy of the checkout, which takes over what `rt` has kept in the crates' out/, and is gone afterwards.
+# measure.sh [--cpu LEVEL] PROGRAM [PART]: proves a program of benches/ with the crates below it, builds it as LLVM
+# compiles it for processors of that level, as x86-64-v3, and prints what it measures, or that part of it. That happens
+# in a copy of the checkout, which takes over what `rt` has kept in the crates' out/, and is gone afterwards.
 set -euo pipefail
 # shellcheck source=tests/apart.sh
 source "$(dirname -- "$(readlink -f -- "${BASH_SOURCE[0]}")")/../tests/apart.sh"

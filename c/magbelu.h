@@ -1,13 +1,14 @@
 /*
  * Magbelu from C99 and C++ (magbelu.hpp has classes over it): flowgraphs of signal blocks, on the thread of the caller.
  *
- * A graph file, a script and raw items go in as bytes, and texts and items come out into buffers of the caller. What a call allocates it frees before it
- * returns, but for a plant that the caller holds from `magbelu_open` to `magbelu_free`. docs/user/C.md says how to build and link, and docs/user/FILES.md what stands in
- * the files and the texts.
+ * A graph file, a script and raw items go in as bytes, and texts and items come out into buffers of the caller. What a
+ * call allocates it frees before it returns, but for a plant that the caller holds from `magbelu_open` to
+ * `magbelu_free`. docs/user/C.md says how to build and link, and docs/user/FILES.md what stands in the files and the
+ * texts.
  *
- * Each buffer is a pointer and a number of bytes. NULL may stand for one of 0 bytes; with more it is refused (54). Buffers that a call writes must not
- * overlap those that it reads, nor one another. Calls on several threads at the same time are allowed, since they share
- * nothing, where each plant that is held is called by one thread at a time.
+ * Each buffer is a pointer and a number of bytes. NULL may stand for one of 0 bytes; with more it is refused (54).
+ * Buffers that a call writes must not overlap those that it reads, nor one another. Calls on several threads at the
+ * same time are allowed, since they share nothing, where each plant that is held is called by one thread at a time.
  */
 #ifndef MAGBELU_H
 #define MAGBELU_H
@@ -20,16 +21,19 @@
 extern "C" {
 #endif
 
-/* The version of these calls. magbelu_version() gives that of the library which is linked or loaded: it has to be the same. */
+/* The version of these calls. magbelu_version() gives that of the library which is linked or loaded: it has to be the
+ * same. */
 #define MAGBELU_VERSION 1
 
 /*
  * What came of a call.
  *
- * status  0: done. 3: done, but the run came to rest before all blocks were done. 1: refused. 4: out of memory. (The exit status of the program `flow`.)
+ * status  0: done. 3: done, but the run came to rest before all blocks were done. 1: refused. 4: out of memory. (The
+ *         exit status of the program `flow`.)
  * number  that of the refusal, as docs/user/REFUSALS.md lists them; 0 with status 0 and 3.
  * output_len  how many bytes the output has. Where the buffer for it has fewer, nothing was written there.
- * error_len   how many bytes the line has that tells the refusal, as `flow: refused 7 Loop x` with a line feed; 0 where there is none.
+ * error_len   how many bytes the line has that tells the refusal, as `flow: refused 7 Loop x` with a line feed; 0 where
+ *             there is none.
  */
 struct magbelu_answer {
     uint32_t status;
@@ -39,8 +43,8 @@ struct magbelu_answer {
 };
 
 /*
- * Bytes for a source: the items that they are go to the end of its tape, behind the file's own feeds. `name` has the name of the block. A NULL pointer in a
- * table is refused (54), even with a length of 0.
+ * Bytes for a source: the items that they are go to the end of its tape, behind the file's own feeds. `name` has the
+ * name of the block. A NULL pointer in a table is refused (54), even with a length of 0.
  */
 struct magbelu_input {
     const uint8_t *name;
@@ -49,7 +53,8 @@ struct magbelu_input {
     size_t len;
 };
 
-/* A sink of which something is wanted: with `tags` 0 the bytes of its items, else a line `@OFFSET:KEY=VALUE/SOURCE` for each of its tags. */
+/* A sink of which something is wanted: with `tags` 0 the bytes of its items, else a line `@OFFSET:KEY=VALUE/SOURCE` for
+ * each of its tags. */
 struct magbelu_output {
     const uint8_t *name;
     size_t name_len;
@@ -57,9 +62,10 @@ struct magbelu_output {
 };
 
 /*
- * A plant that is held: a graph with its tapes, its buffers and how far it is. The struct is the caller's, and stands where the caller likes; what it points to
- * is the library's. Begin it with MAGBELU_NO_PLANT, hand it to the calls, and touch no member. A struct that holds no plant, as one that was freed, is answered
- * with 55; a second free too. A copy of the struct is no second plant: once the plant was freed through one, the other must not be used.
+ * A plant that is held: a graph with its tapes, its buffers and how far it is. The struct is the caller's, and stands
+ * where the caller likes; what it points to is the library's. Begin it with MAGBELU_NO_PLANT, hand it to the calls, and
+ * touch no member. A struct that holds no plant, as one that was freed, is answered with 55; a second free too. A copy
+ * of the struct is no second plant: once the plant was freed through one, the other must not be used.
  */
 struct magbelu_plant {
     void *at;
@@ -69,8 +75,9 @@ struct magbelu_plant {
 #define MAGBELU_NO_PLANT {NULL, false}
 
 /*
- * A plant that streams: it runs in constant memory for as long as it is fed, since it forgets what its sources have taken and what was drained of its sinks. Of the
- * struct the same holds as of a plant's: begin it with MAGBELU_NO_STREAM, and hand it to the calls magbelu_stream_... alone.
+ * A plant that streams: it runs in constant memory for as long as it is fed, since it forgets what its sources have
+ * taken and what was drained of its sinks. Of the struct the same holds as of a plant's: begin it with
+ * MAGBELU_NO_STREAM, and hand it to the calls magbelu_stream_... alone.
  */
 struct magbelu_stream {
     struct magbelu_plant plant;
@@ -143,13 +150,16 @@ struct magbelu_fault_place {
 /*
  * What came of a call of a held plant.
  *
- * status  0: done. 3: the plant came to rest before all blocks were done. 1: refused, and nothing changed. 4: out of memory.
+ * status  0: done. 3: the plant came to rest before all blocks were done. 1: refused, and nothing changed. 4: out of
+ *         memory.
  * number  that of the refusal (docs/user/REFUSALS.md, and those above); 0 with status 0 and 3.
- * what    of a step: MAGBELU_DID, MAGBELU_DONE, MAGBELU_WAITS_ITEMS or MAGBELU_WAITS_ROOM. Of magbelu_need: MAGBELU_READY, MAGBELU_DONE, MAGBELU_WAITS_ITEMS,
- *         MAGBELU_WAITS_ROOM or MAGBELU_WAITS_FEED. Of magbelu_firings: MAGBELU_BALANCED, MAGBELU_UNEVEN or MAGBELU_TOO_OFTEN.
- * value   of a feed and a close: how many items the tape has, or a source that streams was fed. Of a setting: the item from which it is in force; with number 27
- *         the first one from which it could be. Of a step: how many firings were done, or the port at which the block waits. Of magbelu_need: that port. Of
- *         magbelu_item_size: that size. Of magbelu_block_count, magbelu_connections, magbelu_rooms and magbelu_firings: how many there are.
+ * what    of a step: MAGBELU_DID, MAGBELU_DONE, MAGBELU_WAITS_ITEMS or MAGBELU_WAITS_ROOM. Of magbelu_need:
+ *         MAGBELU_READY, MAGBELU_DONE, MAGBELU_WAITS_ITEMS, MAGBELU_WAITS_ROOM or MAGBELU_WAITS_FEED. Of
+ *         magbelu_firings: MAGBELU_BALANCED, MAGBELU_UNEVEN or MAGBELU_TOO_OFTEN.
+ * value   of a feed and a close: how many items the tape has, or a source that streams was fed. Of a setting: the item
+ *         from which it is in force; with number 27 the first one from which it could be. Of a step: how many firings
+ *         were done, or the port at which the block waits. Of magbelu_need: that port. Of magbelu_item_size: that size.
+ *         Of magbelu_block_count, magbelu_connections, magbelu_rooms and magbelu_firings: how many there are.
  */
 struct magbelu_reply {
     uint32_t status;
@@ -170,8 +180,9 @@ struct magbelu_reply {
 #define MAGBELU_TOO_OFTEN 2
 
 /*
- * What came of a read or a drain: how many items the sink has taken in all, how many bytes an item has, how many bytes the items have that are shown, and how
- * many the lines of their tags. Each of the two buffers is written where all that belongs there fits.
+ * What came of a read or a drain: how many items the sink has taken in all, how many bytes an item has, how many bytes
+ * the items have that are shown, and how many the lines of their tags. Each of the two buffers is written where all
+ * that belongs there fits.
  */
 struct magbelu_piece {
     uint32_t status;
@@ -182,7 +193,8 @@ struct magbelu_piece {
     size_t tags_len;
 };
 
-/* A tag that items are fed with: the place of its item on the tape, where the first is 0, its value, and its key of 1 to 16 letters, digits, `_`, `.` or `-`. */
+/* A tag that items are fed with: the place of its item on the tape, where the first is 0, its value, and its key of 1
+ * to 16 letters, digits, `_`, `.` or `-`. */
 struct magbelu_tag {
     uint64_t offset;
     int64_t value;
@@ -198,10 +210,13 @@ struct magbelu_tag {
  *
  * status  0: done. 1: refused.
  * number  that of the refusal; 0 with status 0.
- * role    MAGBELU_WORK, MAGBELU_SOURCE, MAGBELU_SINK of a sink that keeps its items, or MAGBELU_NULL_SINK of one that drops them.
- * input_type, output_type    MAGBELU_BYTE, MAGBELU_SHORT or MAGBELU_INT. Where there is no port on a side, the type says nothing.
+ * role    MAGBELU_WORK, MAGBELU_SOURCE, MAGBELU_SINK of a sink that keeps its items, or MAGBELU_NULL_SINK of one that
+ *         drops them.
+ * input_type, output_type    MAGBELU_BYTE, MAGBELU_SHORT or MAGBELU_INT. Where there is no port on a side, the type
+ *                            says nothing.
  * input_count, output_count  how many inputs and outputs are connected. A source has no inputs but its tape.
- * name_len, kind_len         how many bytes its name has, and the name of its kind. Each is written where it fits its buffer.
+ * name_len, kind_len         how many bytes its name has, and the name of its kind. Each is written where it fits its
+ *                            buffer.
  */
 struct magbelu_listed {
     uint32_t status;
@@ -260,8 +275,8 @@ struct magbelu_block_setting {
  *
  * status   0: done. 1: refused. 4: out of memory.
  * number   that of the refusal; 0 with status 0.
- * shift    MAGBELU_ALIKE where all firings take and give as many items. With MAGBELU_SKIPS the first `shifted` firings give nothing, and with MAGBELU_DELAYS they take
- *          nothing.
+ * shift    MAGBELU_ALIKE where all firings take and give as many items. With MAGBELU_SKIPS the first `shifted` firings
+ *          give nothing, and with MAGBELU_DELAYS they take nothing.
  * gives    how many items a firing gives on each output.
  * input_count  how many inputs are connected.
  */
@@ -303,18 +318,21 @@ struct magbelu_levels {
 };
 
 /*
- * What came of a call about slices of time, which are parts of a run that are run for themselves. A slice begins at an iteration: each source gives its `period`
- * items in one. So that it gives what the whole run does, it reads some iterations before its own, and what these give is dropped.
+ * What came of a call about slices of time, which are parts of a run that are run for themselves. A slice begins at an
+ * iteration: each source gives its `period` items in one. So that it gives what the whole run does, it reads some
+ * iterations before its own, and what these give is dropped.
  *
  * status      0: done. 1: refused. 4: out of memory. The plant stays as it is.
  * number      that of the refusal; 0 with status 0.
- * block       with MAGBELU_NO_SLICES the number of the first block whose items rest on all that it was given, or MAGBELU_NO_BLOCK where the rates have no balance, or
- *             slices would overlap too far. With 0 the number of the first block whose items rest on how many came before (`head`, `additive_scrambler`): slices of such a
- *             graph are opened by magbelu_stream_open_at, and those of another, which has MAGBELU_NO_BLOCK here, by magbelu_stream_open too. Blocks are numbered from 0,
- *             in the order of the file.
- * iterations  of magbelu_slices: how many iterations before its own a slice reads. Of magbelu_slice: how many iterations of each tape the slice leaves out.
- * source_count, sink_count  how many rows there are for sources, and for sinks that keep their items; magbelu_slice has none for sources. The rows of each table are
- *             written where all of them fit, in the order of the blocks.
+ * block       with MAGBELU_NO_SLICES the number of the first block whose items rest on all that it was given, or
+ *             MAGBELU_NO_BLOCK where the rates have no balance, or slices would overlap too far. With 0 the number of
+ *             the first block whose items rest on how many came before (`head`, `additive_scrambler`): slices of such a
+ *             graph are opened by magbelu_stream_open_at, and those of another, which has MAGBELU_NO_BLOCK here, by
+ *             magbelu_stream_open too. Blocks are numbered from 0, in the order of the file.
+ * iterations  of magbelu_slices: how many iterations before its own a slice reads. Of magbelu_slice: how many
+ *             iterations of each tape the slice leaves out.
+ * source_count, sink_count  how many rows there are for sources, and for sinks that keep their items; magbelu_slice has
+ *             none for sources. The rows of each table are written where all of them fit, in the order of the blocks.
  */
 struct magbelu_slicing {
     uint32_t status;
@@ -325,21 +343,24 @@ struct magbelu_slicing {
     size_t sink_count;
 };
 
-/* How the tape of a source is cut: how many items it gives in an iteration, and how many items before its own a slice reads. */
+/* How the tape of a source is cut: how many items it gives in an iteration, and how many items before its own a slice
+ * reads. */
 struct magbelu_cut_source {
     uint32_t block;
     uint64_t period;
     uint64_t overlap;
 };
 
-/* How the items of a sink are put together: how many it takes in an iteration, and how many a slice drops that does not begin the run. */
+/* How the items of a sink are put together: how many it takes in an iteration, and how many a slice drops that does not
+ * begin the run. */
 struct magbelu_cut_sink {
     uint32_t block;
     uint64_t period;
     uint64_t drop;
 };
 
-/* What a slice gives a sink: how many of its items are dropped, and at which item of the whole stream the others stand. */
+/* What a slice gives a sink: how many of its items are dropped, and at which item of the whole stream the others
+ * stand. */
 struct magbelu_cut_part {
     uint32_t block;
     uint64_t drop;
@@ -347,8 +368,8 @@ struct magbelu_cut_part {
 };
 
 /*
- * What the library exports. Here no pointer may be NULL, even where its length is 0: call these through the functions below, which see to that. A pointer
- * to no bytes may be any other.
+ * What the library exports. Here no pointer may be NULL, even where its length is 0: call these through the functions
+ * below, which see to that. A pointer to no bytes may be any other.
  */
 uint32_t magbelu_version(void);
 
@@ -427,8 +448,8 @@ struct magbelu_slicing magbelu_bytes_slices(struct magbelu_plant *plant, uint32_
 struct magbelu_slicing magbelu_bytes_slice(struct magbelu_plant *plant, uint32_t tags, uint64_t begins, struct magbelu_cut_part *parts, size_t part_room);
 
 /*
- * Kernels over slices: each pointer with its number of items, `out` too. They answer 0; or MAGBELU_LENGTHS, where the numbers differ, and then write nothing.
- * Sums and products wrap. No pointer may be NULL, and `out` overlaps no other.
+ * Kernels over slices: each pointer with its number of items, `out` too. They answer 0; or MAGBELU_LENGTHS, where the
+ * numbers differ, and then write nothing. Sums and products wrap. No pointer may be NULL, and `out` overlaps no other.
  */
 uint32_t magbelu_kernel_add_shorts(const int16_t *a, size_t a_len, const int16_t *b, size_t b_len, int16_t *out, size_t out_len);
 uint32_t magbelu_kernel_add_ints(const int32_t *a, size_t a_len, const int32_t *b, size_t b_len, int32_t *out, size_t out_len);
@@ -506,8 +527,9 @@ static inline const struct magbelu_row *magbelu_row_of(uint32_t number) {
 }
 
 /*
- * The name of the refusal of this number, as `Late`, and the reason, as `the setting begins before the first item that is open`. Both are empty of a number that no
- * call here gives. magbelu_explain shows the place in a file that is refused.
+ * The name of the refusal of this number, as `Late`, and the reason, as `the setting begins before the first item that
+ * is open`. Both are empty of a number that no call here gives. magbelu_explain shows the place in a file that is
+ * refused.
  */
 static inline const char *magbelu_name(uint32_t number) { return magbelu_row_of(number)->name; }
 
@@ -535,8 +557,9 @@ static inline struct magbelu_answer magbelu_refused_null(char *error, size_t err
 /*
  * Reports the graph of a file, as `flow check FILE` does: its blocks, its connections, its rates.
  *
- * `file` has the text of the graph file. The output goes to `output`, where it fits into `output_room` bytes; the line of a refusal goes to `error`, where it
- * fits into `error_room`. Neither has a 0 at its end. To learn how much room is needed, call with a room of 0 first.
+ * `file` has the text of the graph file. The output goes to `output`, where it fits into `output_room` bytes; the line
+ * of a refusal goes to `error`, where it fits into `error_room`. Neither has a 0 at its end. To learn how much room is
+ * needed, call with a room of 0 first.
  */
 static inline struct magbelu_answer magbelu_check(const void *file, size_t file_len, char *output, size_t output_room, char *error, size_t error_room) {
     uint64_t none = 0;
@@ -547,8 +570,9 @@ static inline struct magbelu_answer magbelu_check(const void *file, size_t file_
 }
 
 /*
- * Runs the graph of a file on this thread until it comes to rest, and tells what its sinks hold, as `flow run --one-thread FILE` does: the sources are fed
- * what the file says, and closed. Status 3 where it came to rest before all blocks were done.
+ * Runs the graph of a file on this thread until it comes to rest, and tells what its sinks hold, as `flow run
+ * --one-thread FILE` does: the sources are fed what the file says, and closed. Status 3 where it came to rest before
+ * all blocks were done.
  */
 static inline struct magbelu_answer magbelu_run(const void *file, size_t file_len, char *output, size_t output_room, char *error, size_t error_room) {
     uint64_t none = 0;
@@ -559,8 +583,8 @@ static inline struct magbelu_answer magbelu_run(const void *file, size_t file_le
 }
 
 /*
- * Makes a call of the graph for each line of `script` (feed, close, set, step, read ..), as `flow script FILE` does. The output has a reply for each, also where
- * a later line is refused: then it has those of the lines before it.
+ * Makes a call of the graph for each line of `script` (feed, close, set, step, read ..), as `flow script FILE` does.
+ * The output has a reply for each, also where a later line is refused: then it has those of the lines before it.
  */
 static inline struct magbelu_answer magbelu_script(const void *file, size_t file_len, const void *script, size_t script_len, char *output,
                                                    size_t output_room, char *error, size_t error_room) {
@@ -574,16 +598,17 @@ static inline struct magbelu_answer magbelu_script(const void *file, size_t file
 }
 
 /*
- * Shows where a graph file is refused. The answer and its line are those of magbelu_open, and the output has the place in the file and what stands or may stand
- * there, as lines for a person, which `flow --explain FILE` writes too:
+ * Shows where a graph file is refused. The answer and its line are those of magbelu_open, and the output has the place
+ * in the file and what stands or may stand there, as lines for a person, which `flow --explain FILE` writes too:
  *
  *     --> graph.toml:9:1
  *      |
  *    9 | valu = 10
  *      | ^ a block of the kind add_const has no key `valu`; it has: name, kind, type, value, tags, multiple, capacity
  *
- * `name` is what the file is called there; one that is no UTF-8 is shown as `?`. Of a file that is not refused the output is empty, and so it is where memory
- * runs out for these lines. Call it where another call refused the file: it reads the file anew.
+ * `name` is what the file is called there; one that is no UTF-8 is shown as `?`. Of a file that is not refused the
+ * output is empty, and so it is where memory runs out for these lines. Call it where another call refused the file: it
+ * reads the file anew.
  */
 static inline struct magbelu_answer magbelu_explain(const void *name, size_t name_len, const void *file, size_t file_len, char *output, size_t output_room,
                                                     char *error, size_t error_room) {
@@ -610,12 +635,14 @@ static inline struct magbelu_fault_place magbelu_place(const void *file, size_t 
 }
 
 /*
- * Runs the graph of a file between raw items, as `flow run --one-thread -i .. -o ..` does. Raw items stand one behind the other without a header: 1, 2 or 4
- * bytes each, in two's complement, the lowest byte first, or with `big_endian` other than 0 the highest.
+ * Runs the graph of a file between raw items, as `flow run --one-thread -i .. -o ..` does. Raw items stand one behind
+ * the other without a header: 1, 2 or 4 bytes each, in two's complement, the lowest byte first, or with `big_endian`
+ * other than 0 the highest.
  *
- * Each input is fed in turn, then all sources are closed and the graph runs until it comes to rest. `bytes` has then what the outputs ask for, one behind
- * the other, and `lens` how many bytes each of them has. Each is written where all of it fits: the answer's `output_len` is the number of all bytes, and a
- * call with `bytes_room` 0 and room for `lens` tells all lengths. A refusal names the entry of its table, as `flow: refused 22 NotSink output 0`.
+ * Each input is fed in turn, then all sources are closed and the graph runs until it comes to rest. `bytes` has then
+ * what the outputs ask for, one behind the other, and `lens` how many bytes each of them has. Each is written where all
+ * of it fits: the answer's `output_len` is the number of all bytes, and a call with `bytes_room` 0 and room for `lens`
+ * tells all lengths. A refusal names the entry of its table, as `flow: refused 22 NotSink output 0`.
  */
 static inline struct magbelu_answer magbelu_run_items(const void *file, size_t file_len, uint32_t big_endian, const struct magbelu_input *inputs,
                                                       size_t input_count, const struct magbelu_output *outputs, size_t output_count, uint64_t *lens,
@@ -664,8 +691,8 @@ static inline int magbelu_has_null_key(const struct magbelu_tag *tags, size_t ta
 }
 
 /*
- * Opens the plant of a graph file, with what the file feeds, for many calls. `plant` must hold none. The answer has no output; a refusal of the file has a line,
- * as of magbelu_run. Where the plant is no longer needed, free it.
+ * Opens the plant of a graph file, with what the file feeds, for many calls. `plant` must hold none. The answer has no
+ * output; a refusal of the file has a line, as of magbelu_run. Where the plant is no longer needed, free it.
  */
 static inline struct magbelu_answer magbelu_open(struct magbelu_plant *plant, const void *file, size_t file_len, char *error, size_t error_room) {
     uint64_t none = 0;
@@ -687,8 +714,8 @@ static inline struct magbelu_reply magbelu_item_size(struct magbelu_plant *plant
 }
 
 /*
- * Puts the items that raw bytes are at the end of a source's tape, with tags on them (NULL and 0 for none). With bytes that end within an item it is refused 53,
- * and then nothing is fed.
+ * Puts the items that raw bytes are at the end of a source's tape, with tags on them (NULL and 0 for none). With bytes
+ * that end within an item it is refused 53, and then nothing is fed.
  */
 static inline struct magbelu_reply magbelu_feed(struct magbelu_plant *plant, const void *source, size_t source_len, uint32_t big_endian, const void *bytes,
                                                 size_t len, const struct magbelu_tag *tags, size_t tag_count) {
@@ -745,12 +772,13 @@ static inline struct magbelu_reply magbelu_step(struct magbelu_plant *plant, con
     return magbelu_bytes_step(plant, magbelu_read_at(block), block_len, max);
 }
 
-/* Steps all blocks until none can act: status 0 where all are done, which needs closed sources, and 3 where more would have to be fed. */
+/* Steps all blocks until none can act: status 0 where all are done, which needs closed sources, and 3 where more would
+ * have to be fed. */
 static inline struct magbelu_reply magbelu_settle(struct magbelu_plant *plant) { return plant == NULL ? magbelu_null_reply() : magbelu_bytes_settle(plant); }
 
 /*
- * Shows what a sink holds from item `from` on, at most `max` items: their bytes in `bytes`, and for each of their tags a line `@OFFSET:KEY=VALUE/SOURCE` in
- * `tags`. A sink that holds fewer than `from` items is refused 31.
+ * Shows what a sink holds from item `from` on, at most `max` items: their bytes in `bytes`, and for each of their tags
+ * a line `@OFFSET:KEY=VALUE/SOURCE` in `tags`. A sink that holds fewer than `from` items is refused 31.
  */
 static inline struct magbelu_piece magbelu_read(struct magbelu_plant *plant, const void *sink, size_t sink_len, uint64_t from, uint64_t max, uint32_t big_endian,
                                                 void *bytes, size_t bytes_room, char *tags, size_t tags_room) {
@@ -764,8 +792,8 @@ static inline struct magbelu_piece magbelu_read(struct magbelu_plant *plant, con
 }
 
 /*
- * Tells what a block waits for: it may act (MAGBELU_READY) or is done, it waits for items at an input or for room at an output, or it is a source that waits to be
- * fed or closed.
+ * Tells what a block waits for: it may act (MAGBELU_READY) or is done, it waits for items at an input or for room at an
+ * output, or it is a source that waits to be fed or closed.
  */
 static inline struct magbelu_reply magbelu_need(struct magbelu_plant *plant, const void *block, size_t block_len) {
     if (plant == NULL || magbelu_is_null(block, block_len)) {
@@ -780,8 +808,8 @@ static inline struct magbelu_reply magbelu_block_count(struct magbelu_plant *pla
 }
 
 /*
- * Tells of the block of this number what it is, with its name in `name` and that of its kind in `kind`, each where it fits. Neither has a 0 at its end. A number
- * that no block has is refused 20.
+ * Tells of the block of this number what it is, with its name in `name` and that of its kind in `kind`, each where it
+ * fits. Neither has a 0 at its end. A number that no block has is refused 20.
  */
 static inline struct magbelu_listed magbelu_block(struct magbelu_plant *plant, uint32_t number, char *name, size_t name_room, char *kind, size_t kind_room) {
     uint64_t none = 0, more = 0;
@@ -792,7 +820,8 @@ static inline struct magbelu_listed magbelu_block(struct magbelu_plant *plant, u
     return magbelu_bytes_block(plant, number, magbelu_write_at(name, &none), name_room, magbelu_write_at(kind, &more), kind_room);
 }
 
-/* Tells the connections of the graph, in the order of the file, where all of them fit into the table, and how many they are. */
+/* Tells the connections of the graph, in the order of the file, where all of them fit into the table, and how many they
+ * are. */
 static inline struct magbelu_reply magbelu_connections(struct magbelu_plant *plant, struct magbelu_connection *connections, size_t room) {
     struct magbelu_connection none;
     if (plant == NULL || magbelu_is_null(connections, room)) {
@@ -802,8 +831,8 @@ static inline struct magbelu_reply magbelu_connections(struct magbelu_plant *pla
 }
 
 /*
- * Draws the graph, as `flow draw --format FORMAT FILE` does: `output` has the text in the format, where it fits, from which Graphviz's `dot` or Mermaid makes a
- * picture. It has no 0 at its end, and the answer no line.
+ * Draws the graph, as `flow draw --format FORMAT FILE` does: `output` has the text in the format, where it fits, from
+ * which Graphviz's `dot` or Mermaid makes a picture. It has no 0 at its end, and the answer no line.
  */
 static inline struct magbelu_answer magbelu_draw(struct magbelu_plant *plant, uint32_t format, char *output, size_t output_room) {
     uint64_t none = 0;
@@ -815,8 +844,8 @@ static inline struct magbelu_answer magbelu_draw(struct magbelu_plant *plant, ui
 }
 
 /*
- * Tells how many items the buffer behind each connection has room for, in the order of magbelu_connections, where all of them fit into the table, and how many connections
- * there are.
+ * Tells how many items the buffer behind each connection has room for, in the order of magbelu_connections, where all
+ * of them fit into the table, and how many connections there are.
  */
 static inline struct magbelu_reply magbelu_rooms(struct magbelu_plant *plant, uint64_t *rooms, size_t room) {
     uint64_t none = 0;
@@ -826,7 +855,8 @@ static inline struct magbelu_reply magbelu_rooms(struct magbelu_plant *plant, ui
     return magbelu_bytes_rooms(plant, rooms != NULL ? rooms : &none, room);
 }
 
-/* Tells what of the block of this number may be set. Its own taps are in `taps`, where they fit. A number that no block has is refused 20. */
+/* Tells what of the block of this number may be set. Its own taps are in `taps`, where they fit. A number that no block
+ * has is refused 20. */
 static inline struct magbelu_block_setting magbelu_setting(struct magbelu_plant *plant, uint32_t number, int16_t *taps, size_t room) {
     int16_t none = 0;
     if (plant == NULL || magbelu_is_null(taps, room)) {
@@ -837,8 +867,8 @@ static inline struct magbelu_block_setting magbelu_setting(struct magbelu_plant 
 }
 
 /*
- * Tells what a firing of the block of this number takes of each connected input, in `takes` where all of them fit, and gives on each output. A number that no block has
- * is refused 20.
+ * Tells what a firing of the block of this number takes of each connected input, in `takes` where all of them fit, and
+ * gives on each output. A number that no block has is refused 20.
  */
 static inline struct magbelu_block_rates magbelu_rates(struct magbelu_plant *plant, uint32_t number, uint64_t *takes, size_t room) {
     uint64_t none = 0;
@@ -850,8 +880,9 @@ static inline struct magbelu_block_rates magbelu_rates(struct magbelu_plant *pla
 }
 
 /*
- * Tells how often each block fires in an iteration, where all of them fit into the table, and how many blocks there are. Where no numbers of firings leave all buffers as
- * they were (MAGBELU_UNEVEN), or the least are too many (MAGBELU_TOO_OFTEN), nothing is written, and the value is 0.
+ * Tells how often each block fires in an iteration, where all of them fit into the table, and how many blocks there
+ * are. Where no numbers of firings leave all buffers as they were (MAGBELU_UNEVEN), or the least are too many
+ * (MAGBELU_TOO_OFTEN), nothing is written, and the value is 0.
  */
 static inline struct magbelu_reply magbelu_firings(struct magbelu_plant *plant, uint32_t *firings, size_t room) {
     uint32_t none = 0;
@@ -868,8 +899,9 @@ static inline struct magbelu_slicing magbelu_null_slicing(void) {
 }
 
 /*
- * Tells how the runs of the graph are cut into slices of time: in `sources` how each source is cut, in `sinks` each sink that keeps its items. A slice gives the items
- * of the whole run, and with `tags` other than 0 its tags too, for which it may have to overlap further.
+ * Tells how the runs of the graph are cut into slices of time: in `sources` how each source is cut, in `sinks` each
+ * sink that keeps its items. A slice gives the items of the whole run, and with `tags` other than 0 its tags too, for
+ * which it may have to overlap further.
  */
 static inline struct magbelu_slicing magbelu_slices(struct magbelu_plant *plant, uint32_t tags, struct magbelu_cut_source *sources, size_t source_room,
                                                     struct magbelu_cut_sink *sinks, size_t sink_room) {
@@ -882,11 +914,13 @@ static inline struct magbelu_slicing magbelu_slices(struct magbelu_plant *plant,
 }
 
 /*
- * Tells of the slice that begins at an iteration what it leaves out: `iterations` of each tape, and in `parts` of each sink that keeps its items how many are dropped.
- * The slice that ends where another begins is a stream that magbelu_stream_open_at opens, whose sources are fed their items from iteration `iterations` up to that one,
- * and closed there; the last is fed to the end. Behind what is dropped, each sink gives what the whole run gives from item `stands` on, up to where the next slice
- * stands. An offset of a tag is less by what was left out of the tape, and one that comes to a sink less by `stands - drop`. An iteration within the first
- * overlap, or behind the 2^46th, is refused with MAGBELU_NO_CUT.
+ * Tells of the slice that begins at an iteration what it leaves out: `iterations` of each tape, and in `parts` of each
+ * sink that keeps its items how many are dropped. The slice that ends where another begins is a stream that
+ * magbelu_stream_open_at opens, whose sources are fed their items from iteration `iterations` up to that one, and
+ * closed there; the last is fed to the end. Behind what is dropped, each sink gives what the whole run gives from item
+ * `stands` on, up to where the next slice stands. An offset of a tag is less by what was left out of the tape, and one
+ * that comes to a sink less by `stands - drop`. An iteration within the first overlap, or behind the 2^46th, is refused
+ * with MAGBELU_NO_CUT.
  */
 static inline struct magbelu_slicing magbelu_slice(struct magbelu_plant *plant, uint32_t tags, uint64_t begins, struct magbelu_cut_part *parts, size_t part_room) {
     struct magbelu_cut_part no_part = {0, 0, 0};
@@ -900,8 +934,9 @@ static inline struct magbelu_slicing magbelu_slice(struct magbelu_plant *plant, 
 static inline struct magbelu_plant *magbelu_streaming(struct magbelu_stream *stream) { return stream != NULL ? &stream->plant : NULL; }
 
 /*
- * Opens the plant of a graph file so that it streams, as magbelu_open opens one. The calls below are those of a plant, but for magbelu_stream_drain and
- * magbelu_stream_levels; where they speak of a tape, it is all that the source was fed.
+ * Opens the plant of a graph file so that it streams, as magbelu_open opens one. The calls below are those of a plant,
+ * but for magbelu_stream_drain and magbelu_stream_levels; where they speak of a tape, it is all that the source was
+ * fed.
  */
 static inline struct magbelu_answer magbelu_stream_open(struct magbelu_stream *stream, const void *file, size_t file_len, char *error, size_t error_room) {
     uint64_t none = 0;
@@ -912,10 +947,11 @@ static inline struct magbelu_answer magbelu_stream_open(struct magbelu_stream *s
 }
 
 /*
- * Opens such a plant for a slice, which leaves out so many iterations of each tape, as magbelu_slice tells: each block goes on where it stands after these. Nothing is fed
- * to it, since what the file feeds stands at the front of the tapes: feed each source the rest of its tape. Items, tags and settings are numbered from where the slice
- * begins. A file that magbelu_stream_open refuses is refused alike, one whose graph is not cut with MAGBELU_NO_SLICES, and more than 2^46 iterations with MAGBELU_NO_CUT:
- * these two have no line.
+ * Opens such a plant for a slice, which leaves out so many iterations of each tape, as magbelu_slice tells: each block
+ * goes on where it stands after these. Nothing is fed to it, since what the file feeds stands at the front of the
+ * tapes: feed each source the rest of its tape. Items, tags and settings are numbered from where the slice begins. A
+ * file that magbelu_stream_open refuses is refused alike, one whose graph is not cut with MAGBELU_NO_SLICES, and more
+ * than 2^46 iterations with MAGBELU_NO_CUT: these two have no line.
  */
 static inline struct magbelu_answer magbelu_stream_open_at(struct magbelu_stream *stream, const void *file, size_t file_len, uint64_t iterations, char *error,
                                                            size_t error_room) {
@@ -1016,9 +1052,10 @@ static inline struct magbelu_slicing magbelu_stream_slice(struct magbelu_stream 
 }
 
 /*
- * Takes at most `max` items away of those that a sink has taken and that were not drained yet: their bytes are in `bytes` then, and in `tags` a line
- * `@OFFSET:KEY=VALUE/SOURCE` for each of their tags, whose offset counts from the first item that the sink ever took. Where one of the two does not fit, nothing is
- * taken away, and the lengths tell how much room is needed.
+ * Takes at most `max` items away of those that a sink has taken and that were not drained yet: their bytes are in
+ * `bytes` then, and in `tags` a line `@OFFSET:KEY=VALUE/SOURCE` for each of their tags, whose offset counts from the
+ * first item that the sink ever took. Where one of the two does not fit, nothing is taken away, and the lengths tell
+ * how much room is needed.
  */
 static inline struct magbelu_piece magbelu_stream_drain(struct magbelu_stream *stream, const void *sink, size_t sink_len, uint64_t max, uint32_t big_endian,
                                                         void *bytes, size_t bytes_room, char *tags, size_t tags_room) {

@@ -1,6 +1,7 @@
 /*
- * Magbelu from C++17: graphs and streams that free themselves, and exceptions, over the calls of magbelu.h, which says what each of them does. docs/user/C.md says how to build
- * and link. The kernels, and runs between raw items, are those of magbelu.h.
+ * Magbelu from C++17: graphs and streams that free themselves, and exceptions, over the calls of magbelu.h, which says
+ * what each of them does. docs/user/C.md says how to build and link. The kernels, and runs between raw items, are those
+ * of magbelu.h.
  */
 #ifndef MAGBELU_HPP
 #define MAGBELU_HPP
@@ -27,8 +28,8 @@
 namespace magbelu {
 
 /*
- * A call was not done. The text is the number and the name of the refusal, as docs/user/REFUSALS.md lists them, what it concerns, and the reason; where a graph file is
- * refused, lines that show the place in it stand for the reason.
+ * A call was not done. The text is the number and the name of the refusal, as docs/user/REFUSALS.md lists them, what it
+ * concerns, and the reason; where a graph file is refused, lines that show the place in it stand for the reason.
  */
 class error : public std::runtime_error {
 public:
@@ -40,7 +41,8 @@ public:
     /* The name of the refusal, as `Late`. */
     const char *name() const noexcept { return magbelu_name(number_); }
 
-    /* What it concerns: a block by its name, or what stands behind the name in the line of a refusal, as `block 0 name`. */
+    /* What it concerns: a block by its name, or what stands behind the name in the line of a refusal, as `block 0
+     * name`. */
     const std::string &detail() const noexcept { return detail_; }
 
     /* What a script wrote before. */
@@ -73,8 +75,8 @@ struct report {
 };
 
 /*
- * Where a graph file is refused: the line and the column of a word, from 1, how many characters it has on that line, and
- * why. A column counts characters.
+ * Where a graph file is refused: the line and the column of a word, from 1, how many characters it has on that line,
+ * and why. A column counts characters.
  */
 struct fault_place {
     std::size_t line;
@@ -106,7 +108,8 @@ struct piece {
     std::uint64_t held;
 };
 
-/* What a block waits for: it may act or is done, it waits for items at an input or for room at an output, or it is a source that waits to be fed or closed. */
+/* What a block waits for: it may act or is done, it waits for items at an input or for room at an output, or it is a
+ * source that waits to be fed or closed. */
 enum class wait : std::uint32_t {
     ready = MAGBELU_READY,
     done = MAGBELU_DONE,
@@ -124,7 +127,8 @@ enum class item_type : std::uint32_t { bytes = MAGBELU_BYTE, shorts = MAGBELU_SH
 /* What a drawing is written in. */
 enum class drawing : std::uint32_t { dot = MAGBELU_DOT, mermaid = MAGBELU_MERMAID };
 
-/* A block of a graph, with how many of its inputs and outputs are connected. Where there is no port on a side, its type says nothing. */
+/* A block of a graph, with how many of its inputs and outputs are connected. Where there is no port on a side, its type
+ * says nothing. */
 struct block {
     std::string name;
     std::string kind;
@@ -136,8 +140,8 @@ struct block {
 };
 
 /*
- * How far a block of a stream is: how many items it has taken of its first input or its tape, has given on each output (a sink: has taken), and has not taken though
- * they have come.
+ * How far a block of a stream is: how many items it has taken of its first input or its tape, has given on each output
+ * (a sink: has taken), and has not taken though they have come.
  */
 struct block_levels {
     std::uint64_t taken;
@@ -158,10 +162,12 @@ struct block_setting {
     std::optional<std::vector<std::int16_t>> taps;
 };
 
-/* How a block shifts its stream: its first firings give nothing (`skips`), or take nothing (`delays`), or all are alike. */
+/* How a block shifts its stream: its first firings give nothing (`skips`), or take nothing (`delays`), or all are
+ * alike. */
 enum class shift : std::uint32_t { alike = MAGBELU_ALIKE, skips = MAGBELU_SKIPS, delays = MAGBELU_DELAYS };
 
-/* What a firing of a block takes of each connected input and gives on each output, and how many firings are the first in a shift. */
+/* What a firing of a block takes of each connected input and gives on each output, and how many firings are the first
+ * in a shift. */
 struct block_rates {
     std::vector<std::uint64_t> takes;
     std::uint64_t gives;
@@ -178,7 +184,8 @@ struct slice_plan {
     std::uint32_t counts;
 };
 
-/* Where a slice begins: how many iterations it leaves out of each tape, and what it gives each sink that keeps its items. */
+/* Where a slice begins: how many iterations it leaves out of each tape, and what it gives each sink that keeps its
+ * items. */
 struct slice_start {
     std::uint64_t leaves_out;
     std::vector<magbelu_cut_part> parts;
@@ -253,7 +260,8 @@ inline std::string detail_of(const std::string &refusal) {
     return detail == std::string::npos ? "" : refusal.substr(detail + 1);
 }
 
-/* What is said of a refusal of a call that the file of this path goes into: the refusal, and its place in the file, or the reason. */
+/* What is said of a refusal of a call that the file of this path goes into: the refusal, and its place in the file, or
+ * the reason. */
 inline std::string text_of(std::uint32_t number, const std::string &refusal, std::string_view file, std::string_view path) {
     std::string place, own;
     with_room(
@@ -392,7 +400,8 @@ public:
     /* Closes a source's tape, and gives how many items it was fed. */
     std::uint64_t close(std::string_view source) { return reply(magbelu_close(plant(), source.data(), source.size()), source); }
 
-    /* Sets a block's number, from this item of its first input on or from the first that it has not taken, and gives that item. */
+    /* Sets a block's number, from this item of its first input on or from the first that it has not taken, and gives
+     * that item. */
     std::uint64_t set(std::string_view block, std::int64_t number, std::uint64_t at = MAGBELU_NOW) {
         return reply(magbelu_set(plant(), block.data(), block.size(), at, number), block);
     }
@@ -413,7 +422,8 @@ public:
         return got.what == MAGBELU_DID ? got.value : 0;
     }
 
-    /* Runs the graph until it comes to rest, and gives whether all blocks are done, for which all sources have to be closed. */
+    /* Runs the graph until it comes to rest, and gives whether all blocks are done, for which all sources have to be
+     * closed. */
     bool settle() { return tested(magbelu_settle(plant()), "").status == 0; }
 
     /* What a block waits for. */
@@ -497,7 +507,8 @@ public:
         }
     }
 
-    /* How the runs of the graph are cut into slices that give the items of the whole run, and its tags too where these are asked for. */
+    /* How the runs of the graph are cut into slices that give the items of the whole run, and its tags too where these
+     * are asked for. */
     slice_plan slices(bool tags = false) {
         slice_plan plan{};
         for (;;) {
@@ -609,8 +620,9 @@ private:
 } // namespace detail
 
 /*
- * A graph with its tapes, its buffers and how far it is. It may be moved, and not copied; it is called by one thread at a time. Items are `std::uint8_t`,
- * `std::int16_t` or `std::int32_t`, as the source or the sink has them: those of another size are a `std::invalid_argument`.
+ * A graph with its tapes, its buffers and how far it is. It may be moved, and not copied; it is called by one thread at
+ * a time. Items are `std::uint8_t`, `std::int16_t` or `std::int32_t`, as the source or the sink has them: those of
+ * another size are a `std::invalid_argument`.
  */
 class graph : public detail::held {
 public:
@@ -647,7 +659,8 @@ private:
     }
 };
 
-/* A graph that streams: it forgets what its sources have taken and what was drained, and so runs in constant memory for as long as it is fed. Of it the same holds. */
+/* A graph that streams: it forgets what its sources have taken and what was drained, and so runs in constant memory for
+ * as long as it is fed. Of it the same holds. */
 class stream : public detail::held {
 public:
     /* The graph of a graph file's text, which is called `path` where it is refused. */
@@ -658,7 +671,8 @@ public:
     /* The graph of a graph file. One that cannot be read is a `std::system_error`. */
     static stream from_file(const std::string &path) { return stream(detail::text_in(path), path); }
 
-    /* The graph for a slice that leaves out so many iterations of each tape: each block goes on where it stands after these, and nothing is fed. */
+    /* The graph for a slice that leaves out so many iterations of each tape: each block goes on where it stands after
+     * these, and nothing is fed. */
     static stream at(std::uint64_t leaves_out, std::string_view file, std::string_view path = "<graph>") { return stream(leaves_out, file, path); }
 
     /* How far a block is. */
@@ -667,7 +681,8 @@ public:
         return {got.taken, got.given, got.waiting};
     }
 
-    /* Takes at most `max` items away of those that a sink has taken and that were not drained yet. Its tags have the numbers of all that the sink ever took. */
+    /* Takes at most `max` items away of those that a sink has taken and that were not drained yet. Its tags have the
+     * numbers of all that the sink ever took. */
     template <class Item>
     piece<Item> drain(std::string_view sink, std::uint64_t max = UINT64_MAX) {
         static_assert(detail::is_item<Item>, "items are std::uint8_t, std::int16_t or std::int32_t");

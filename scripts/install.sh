@@ -1,11 +1,12 @@
 # shellcheck shell=bash disable=SC2154,SC2034
-# For ./build to source: puts what was built under a prefix, where shells, compilers and Python find it, and takes it away again.
+# For ./build to source: puts what was built under a prefix, where shells, compilers and Python find it, and takes it
+# away again.
 
 # The list of what was installed, under the prefix.
 installed=share/magbelu/installed
 
-# python_folder_of PREFIX: prints the folder under the prefix in which Python looks for packages, or would if it were told to look there: one beside the library
-# where there is one, since the package looks for it there
+# python_folder_of PREFIX: prints the folder under the prefix in which Python looks for packages, or would if it were
+# told to look there: one beside the library where there is one, since the package looks for it there
 python_folder_of() {
     python3 - "$1" "$lib_folder" <<'END'
 import os, site, sys
@@ -30,7 +31,8 @@ begin_list() {
     printf '%s\n' "${made[@]}" "$installed" >"$list"
 }
 
-# put_everything: the program, and the library for C with what compilers and Python need of it, where it is built from these sources
+# put_everything: the program, and the library for C with what compilers and Python need of it, where it is built from
+# these sources
 put_everything() {
     python_folder=
     put_program
@@ -83,7 +85,8 @@ install_to() {
     tell_installed
 }
 
-# take_away PREFIX: the files of its list, and those of its folders that nobody else has put something into. (The list itself goes last but for its folders.)
+# take_away PREFIX: the files of its list, and those of its folders that nobody else has put something into. (The list
+# itself goes last but for its folders.)
 take_away() {
     local place places=() at
     mapfile -t places <"$1/$installed"

@@ -1,8 +1,9 @@
 # shellcheck shell=bash disable=SC2154
-# For ./build to source: where each file of an installation stands under its root, which is a prefix or the /usr of a package.
+# For ./build to source: where each file of an installation stands under its root, which is a prefix or the /usr of a
+# package.
 
-# The root, the folders of libraries, of Python's packages and of completions for zsh under it, and the file that gets a line for each file and each folder that is made: a folder's
-# ends in a slash.
+# The root, the folders of libraries, of Python's packages and of completions for zsh under it, and the file that gets a
+# line for each file and each folder that is made: a folder's ends in a slash.
 root=
 lib_folder=lib
 python_folder=
@@ -38,7 +39,8 @@ make_folder() {
     fi
 }
 
-# test_place PLACE: ends the script where something stands there that the list does not have, so somebody else's, or where a file stands for a folder above it
+# test_place PLACE: ends the script where something stands there that the list does not have, so somebody else's, or
+# where a file stands for a folder above it
 test_place() {
     local above=$1
     if [[ -e $root/$1 || -L $root/$1 ]] && ! grep -qsxF -- "$1" "$list"; then
@@ -52,7 +54,8 @@ test_place() {
     done
 }
 
-# put_by PLACE COMMAND..: what the command makes of the place. (It is listed once it is there: whatever the list has is taken away later.)
+# put_by PLACE COMMAND..: what the command makes of the place. (It is listed once it is there: whatever the list has is
+# taken away later.)
 put_by() {
     test_place "$1"
     if ((only_tests)); then
@@ -97,7 +100,8 @@ put_documents_of_all() {
     done
 }
 
-# put_program: flow for each processor, flow-from-grc and magbelu-studio, with their man pages, completions, documents and examples
+# put_program: flow for each processor, flow-from-grc and magbelu-studio, with their man pages, completions, documents
+# and examples
 put_program() {
     local level
     for level in "${all_levels[@]}"; do

@@ -1,5 +1,6 @@
 # shellcheck shell=bash disable=SC2154,SC2034
-# For ./build to source: the processors that the program and the shared library are compiled for, as x86-64's levels name them, and which of them this machine has.
+# For ./build to source: the processors that the program and the shared library are compiled for, as x86-64's levels
+# name them, and which of them this machine has.
 
 # All of them, the plainest first: it runs wherever the program does.
 all_levels=(x86-64-v2 x86-64-v3)

@@ -1,8 +1,9 @@
 # shellcheck shell=bash disable=SC2154,SC2164,SC2034
-# For ./build to source: has one crate proved, and made into a library, the program, or the library for C. It calls the toolchain's prover itself, as `rt ci` does, for libraries
-# that hold statements and no proofs. Those of `rt lib` hold both, which costs each crate above them dear. They stand in crates/X/out/built, each with a stamp
-# that tells what it was made of and what it came out as; rt reads none of it. A library that comes out as it was before, as after the edit of a comment in
-# its code, leaves what stands on it as it is; the files of its proofs are part of it.
+# For ./build to source: has one crate proved, and made into a library, the program, or the library for C. It calls the
+# toolchain's prover itself, as `rt ci` does, for libraries that hold statements and no proofs. Those of `rt lib` hold
+# both, which costs each crate above them dear. They stand in crates/X/out/built, each with a stamp that tells what it
+# was made of and what it came out as; rt reads none of it. A library that comes out as it was before, as after the edit
+# of a comment in its code, leaves what stands on it as it is; the files of its proofs are part of it.
 
 # Of each crate that was started: its process, and when it began; of each that runs: how many processors it was given.
 declare -A process_of=() began=() jobs_of=()
@@ -93,8 +94,8 @@ make() {
     fi
 }
 
-# make_programs FILE: the program for each processor that it is wanted for, FILE-LEVEL, and FILE, the best of them that this machine runs. The crate is checked once
-# for each: of the crates below it the prover takes what was proved.
+# make_programs FILE: the program for each processor that it is wanted for, FILE-LEVEL, and FILE, the best of them that
+# this machine runs. The crate is checked once for each: of the crates below it the prover takes what was proved.
 make_programs() {
     local level words_to_link
     for level in "${levels[@]}"; do
@@ -107,8 +108,8 @@ make_programs() {
     ln -s -- "${1##*/}-$(level_here)" "$1"
 }
 
-# make_archives FOLDER: the library for C, for every processor; and where there is a C compiler the shared library for the higher levels, where glibc looks for it.
-# (A static library does not look at the processor, so there is one.)
+# make_archives FOLDER: the library for C, for every processor; and where there is a C compiler the shared library for
+# the higher levels, where glibc looks for it. (A static library does not look at the processor, so there is one.)
 make_archives() {
     local level place
     words+=(--crate-type staticlib --toolchain "$kit/toolchain" --backend llvm)
@@ -125,8 +126,8 @@ make_archives() {
     done
 }
 
-# make_libraries FOLDER: of the static library in it one that needs no other archive, and where there is a C compiler a shared one, which shows only what
-# c/magbelu.h declares, by the name of the calls' version
+# make_libraries FOLDER: of the static library in it one that needs no other archive, and where there is a C compiler a
+# shared one, which shows only what c/magbelu.h declares, by the name of the calls' version
 make_libraries() {
     local name
     cd -- "$1"

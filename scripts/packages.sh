@@ -1,5 +1,6 @@
 # shellcheck shell=bash disable=SC2154,SC2034,SC2016
-# For ./build to source: packages for Debian of what was built, by dpkg-deb and without root. scripts/debian has what their control files are made of.
+# For ./build to source: packages for Debian of what was built, by dpkg-deb and without root. scripts/debian has what
+# their control files are made of.
 
 # Where the packages are put.
 packages=$top/out
@@ -30,7 +31,8 @@ libc_of_built() {
 # is_binary FILE: whether it is a program, a library or an archive
 is_binary() { head -c 7 -- "$1" | LC_ALL=C grep -qaE $'^(\x7fELF|!<arch>)'; }
 
-# finish_files: man pages and long documents are compressed, symbols that nobody calls go, and scripts have the Python of the system
+# finish_files: man pages and long documents are compressed, symbols that nobody calls go, and scripts have the Python
+# of the system
 finish_files() {
     local file
     while IFS= read -r file; do
@@ -45,7 +47,8 @@ finish_files() {
     done < <(find "$root" -type f)
 }
 
-# put_documents PACKAGE: its copyright and its changelog, and the page of the calls where they are made from another language
+# put_documents PACKAGE: its copyright and its changelog, and the page of the calls where they are made from another
+# language
 put_documents() {
     local at=$root/share/doc/$1
     put 644 "$debian/copyright" "share/doc/$1/copyright"

@@ -1,5 +1,6 @@
 # shellcheck shell=bash disable=SC2034
-# For ./flow, ./build and the scripts of tests/ to source: which crates are the program and the library for C, and which crates they stand on.
+# For ./flow, ./build and the scripts of tests/ to source: which crates are the program and the library for C, and which
+# crates they stand on.
 
 # The crate of the program, and the one that has all that its main calls.
 program_crate=flow_program
@@ -48,8 +49,8 @@ put_in_order() {
     order+=("$1")
 }
 
-# is_fresh [FILE CRATE]: whether the file, or the program, is built, and newer than each file that its crate is made of, and each folder of them: a file may go
-# or be renamed.
+# is_fresh [FILE CRATE]: whether the file, or the program, is built, and newer than each file that its crate is made of,
+# and each folder of them: a file may go or be renamed.
 is_fresh() {
     local crate part newer made=${1-$program} sources=("$top/crates.txt")
     [[ -e $made ]] || return 1

@@ -1,6 +1,6 @@
 # shellcheck shell=bash disable=SC2154,SC2004
-# For ./build to source: has the crates of `order` proved side by side, each after those that it uses, first those with the longest chain of crates behind
-# them.
+# For ./build to source: has the crates of `order` proved side by side, each after those that it uses, first those with
+# the longest chain of crates behind them.
 
 # The free memory that a check may come to need, in KiB.
 memory_of_a_check=$((4 * 1024 * 1024))
@@ -73,8 +73,8 @@ pass_over() {
     done
 }
 
-# Starts what is ready. The first of them gets what the others leave of the lanes, up to four, and two of more than two where a longer chain
-# waits for it than for all that run.
+# Starts what is ready. The first of them gets what the others leave of the lanes, up to four, and two of more than two
+# where a longer chain waits for it than for all that run.
 start_ready() {
     local crate crates idle=$lanes longest=0 own
     for crate in "${!jobs_of[@]}"; do

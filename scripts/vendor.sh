@@ -1,6 +1,7 @@
 #!/usr/bin/env bash
-# vendor.sh FOLDER: copies the crate magbelu and those below it into another Rattle repository, with their lines of crates.txt, so that a program there may use it; a second
-# call puts what this checkout has now in the place of what the first one brought. docs/user/EMBED.md tells of it.
+# vendor.sh FOLDER: copies the crate magbelu and those below it into another Rattle repository, with their lines of
+# crates.txt, so that a program there may use it; a second call puts what this checkout has now in the place of what the
+# first one brought. docs/user/EMBED.md tells of it.
 set -euo pipefail
 # shellcheck source=scripts/program.sh
 source "$(dirname -- "$(readlink -f -- "${BASH_SOURCE[0]}")")/program.sh"
@@ -66,7 +67,8 @@ write_lines() {
     } >"$to/crates.txt"
 }
 
-# copy_crates: code, definitions and proofs of each, and nothing that is made of them or tried on them; what came before goes
+# copy_crates: code, definitions and proofs of each, and nothing that is made of them or tried on them; what came before
+# goes
 copy_crates() {
     local it part
     mkdir -p -- "$crates"

@@ -1,10 +1,12 @@
 # shellcheck shell=bash disable=SC2154
-# For scripts to source, which have a folder `room`: crates that stand outside crates/, put together in a copy of the checkout with those below them, so that
-# the gate has no proof of them to make. The copy also serves the script that turns definitions.
+# For scripts to source, which have a folder `room`: crates that stand outside crates/, put together in a copy of the
+# checkout with those below them, so that the gate has no proof of them to make. The copy also serves the script that
+# turns definitions.
 # shellcheck source=scripts/program.sh
 source "$(dirname -- "$(readlink -f -- "${BASH_SOURCE[0]}")")/../scripts/program.sh"
 
-# put_below FOLDER LIBRARY..: those of these libraries that are crates, and those below them, in the checkout $room/FOLDER; `order` has them then
+# put_below FOLDER LIBRARY..: those of these libraries that are crates, and those below them, in the checkout
+# $room/FOLDER; `order` has them then
 put_below() {
     local crate here=$room/$1
     for crate in "${@:2}"; do
@@ -22,8 +24,8 @@ put_below() {
     done
 }
 
-# put_sources FROM TO: the files of a folder, and of those in it. The toolchain's .rt and .antt stand in crates/ alone, so that outside they are .rs and .agda,
-# which editors know.
+# put_sources FROM TO: the files of a folder, and of those in it. The toolchain's .rt and .antt stand in crates/ alone,
+# so that outside they are .rs and .agda, which editors know.
 put_sources() {
     local file
     mkdir -p "$2"
@@ -36,7 +38,8 @@ put_sources() {
     done < <(find "$2" -name '*.agda')
 }
 
-# put_apart FOLDER NAME LIBRARY..: in the checkout $room/FOLDER, these libraries, those below them, and the line of a crate NAME over all of them
+# put_apart FOLDER NAME LIBRARY..: in the checkout $room/FOLDER, these libraries, those below them, and the line of a
+# crate NAME over all of them
 put_apart() {
     local crate used order=() libraries=("${@:3}")
     put_below "$1" "${libraries[@]}"
@@ -47,7 +50,8 @@ put_apart() {
     echo "$2: $(printf '%s\n' "${libraries[@]}" | sort -u | paste -sd ' ')" >>"$room/$1/crates.txt"
 }
 
-# put_bench FOLDER BENCH: a program of benches/ over the libraries of its line in benches/uses.txt, in the checkout $room/FOLDER
+# put_bench FOLDER BENCH: a program of benches/ over the libraries of its line in benches/uses.txt, in the checkout
+# $room/FOLDER
 put_bench() {
     local order=() libraries=() own=$room/$1/crates/$2
     read -ra libraries < <(sed -n "s/^$2\( shared\)\?: //p" "$top/benches/uses.txt")

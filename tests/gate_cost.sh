@@ -1,8 +1,8 @@
 #!/usr/bin/env bash
-# gate_cost.sh [CRATE..]: prints a table of what the gate pays for each crate, or for these: processor seconds (user + sys) of its
-# proof from nothing, of its tests' proof from nothing, and of its must-fail edits.
-# It works on a copy, one crate after another with one job, so that nothing but the crate itself is in its figure. Not in it: what
-# the gate compiles, links and runs.
+# gate_cost.sh [CRATE..]: prints a table of what the gate pays for each crate, or for these: processor seconds (user +
+# sys) of its proof from nothing, of its tests' proof from nothing, and of its must-fail edits. It works on a copy, one
+# crate after another with one job, so that nothing but the crate itself is in its figure. Not in it: what the gate
+# compiles, links and runs.
 set -euo pipefail
 # shellcheck source=scripts/program.sh
 source "$(dirname -- "$(readlink -f -- "${BASH_SOURCE[0]}")")/../scripts/program.sh"

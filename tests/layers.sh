@@ -1,7 +1,8 @@
 # shellcheck shell=bash disable=SC2154
-# For the scripts of tests/parts that try tests of libraries to source: those of some folders of tests/, a folder for each layer, are one program over the
-# libraries under test, which is compiled once, and in which each test is a call. So as many run side by side as there are processors. Such a script sets
-# `folders`, and `libraries`, the uppermost of those that they use. What else is over the same libraries goes into the same program: a script may source
+# For the scripts of tests/parts that try tests of libraries to source: those of some folders of tests/, a folder for
+# each layer, are one program over the libraries under test, which is compiled once, and in which each test is a call.
+# So as many run side by side as there are processors. Such a script sets `folders`, and `libraries`, the uppermost of
+# those that they use. What else is over the same libraries goes into the same program: a script may source
 # tests/memory.sh, or tests/programs.sh.
 # shellcheck source=tests/part.sh
 source "$(dirname -- "$(readlink -f -- "${BASH_SOURCE[0]}")")/part.sh"
@@ -40,8 +41,8 @@ put_tests() {
     fi
 }
 
-# put_calls FOLDER..: the file that calls a wanted test of these folders by its name. Where the program has tasks in which an allocation fails, it comes to fail
-# before a test begins.
+# put_calls FOLDER..: the file that calls a wanted test of these folders by its name. Where the program has tasks in
+# which an allocation fails, it comes to fail before a test begins.
 put_calls() {
     local it task=None begin='' other='ExitCode::from(2)'
     [[ ! -d $own/src/memory ]] || { task='crate::memory::answer(rt)' && begin='crate::memory::use_up(rt.alloc());'; }

@@ -1,19 +1,23 @@
 # shellcheck shell=bash disable=SC2154
-# For the scripts of tests/parts to source that try tests of libraries: calls of a plant, runs in threads with a caller and without, commands of the program on
-# graph files with lines, runs between raw streams, a pipeline, and the reading of the program's words and file, in each of which one allocation fails: a case for
-# each allocation. The program ends with status 0 each time. And rounds of a plant in which no allocation is made, so that none of them comes to fail. Tried are each
-# eighth allocation, beginning with that of MEMORY_EIGHTH, 0 to 7, or of the day of the month, or with MEMORY_EIGHTH=all each one.
+# For the scripts of tests/parts to source that try tests of libraries: calls of a plant, runs in threads with a caller
+# and without, commands of the program on graph files with lines, runs between raw streams, a pipeline, and the reading
+# of the program's words and file, in each of which one allocation fails: a case for each allocation. The program ends
+# with status 0 each time. And rounds of a plant in which no allocation is made, so that none of them comes to fail.
+# Tried are each eighth allocation, beginning with that of MEMORY_EIGHTH, 0 to 7, or of the day of the month, or with
+# MEMORY_EIGHTH=all each one.
 
 # The uppermost libraries that the tasks and these files of the program use.
 # shellcheck disable=SC2034  # They are for the scripts that source this.
 memory_libraries=(flow_core run_stats pipeline helper_threads request_box reader_threads clap diagnostics)
 
 eighth=${MEMORY_EIGHTH:-$(($(date +%-d) % 8))}
-# The allocation that is refused. The program makes so many others before its own that each of its own comes to be this one.
+# The allocation that is refused. The program makes so many others before its own that each of its own comes to be this
+# one.
 refused=400
-# Of each task, a few more than the allocations that are made up to its end (in threads the schedule changes their number), and how many of the first are
-# left out, since another task makes them too: `check` reads and tests a file as all do that take one, and `calls` opens a plant as `live` does before its run.
-# The bounds are near, since each case takes its time; the cases at the bounds, which are always tried, test them.
+# Of each task, a few more than the allocations that are made up to its end (in threads the schedule changes their
+# number), and how many of the first are left out, since another task makes them too: `check` reads and tests a file as
+# all do that take one, and `calls` opens a plant as `live` does before its run. The bounds are near, since each case
+# takes its time; the cases at the bounds, which are always tried, test them.
 file=130
 declare -A most=([calls]=171 [live]=171 [live_adaptive]=171 [launch]=365 [whole_run]=365 [start]=366 [launch_nothing]=14 [adaptive]=365 [pool]=365 [check]=172 [feeds]=210 [draw]=168 [run]=236 [per_block]=254 [alone]=232
     [chain]=195 [script]=244 [lines]=235 [tags]=260 [settings]=215 [fork]=245 [raw]=208 [piped]=260 [helped]=320 [stall]=220 [words]=26 [call]=330 [file]=24 [steady]=183)
@@ -38,8 +42,9 @@ list_memory() {
 # said_of CASE: prints what the program said in it: whether the allocation that failed was one of those of the task
 said_of() { head -n 1 "$room/came/$1.stdout"; }
 
-# wanted_of TASK AT: prints what it has to say, as a pattern. At the greatest number none of its own is refused any more. At the least one is already, or none is
-# yet, where nothing else makes its first ones. In steady rounds none is made: the one that is refused comes before them or behind them.
+# wanted_of TASK AT: prints what it has to say, as a pattern. At the greatest number none of its own is refused any
+# more. At the least one is already, or none is yet, where nothing else makes its first ones. In steady rounds none is
+# made: the one that is refused comes before them or behind them.
 wanted_of() {
     local first='(inside|outside)'
     case $1 in
@@ -95,7 +100,8 @@ judge_allocation() {
     fi
 }
 
-# put_memory: its tasks as a module of the program, with those of the program's own files that read its words, and the file that they read
+# put_memory: its tasks as a module of the program, with those of the program's own files that read its words, and the
+# file that they read
 put_memory() {
     if grep -qE '^(memory|no_threads)/' "$room/wanted"; then
         echo "memory: MEMORY_EIGHTH=$eighth"
@@ -105,7 +111,8 @@ put_memory() {
     fi
 }
 
-# call_memory CASE: calls the program so that this allocation of the task fails, and keeps what it writes, and its status
+# call_memory CASE: calls the program so that this allocation of the task fails, and keeps what it writes, and its
+# status
 call_memory() {
     local task at came=$room/came/$1 words status=0
     IFS=/ read -r _ task at <<<"$1"

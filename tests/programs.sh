@@ -1,7 +1,8 @@
 # shellcheck shell=bash disable=SC2154
-# For the scripts of tests/parts to source that try tests of libraries: the programs of benches/, which without words print what was worked out by hand, and those of
-# examples/ in Rattle, which do the same, each with what its file stdout has: as libraries of the one program, so that what stands below them is compiled once. And that
-# README.md quotes that of examples/embed word for word.
+# For the scripts of tests/parts to source that try tests of libraries: the programs of benches/, which without words
+# print what was worked out by hand, and those of examples/ in Rattle, which do the same, each with what its file stdout
+# has: as libraries of the one program, so that what stands below them is compiled once. And that README.md quotes that
+# of examples/embed word for word.
 
 programs=(benches/kernel_bench benches/graph_bench benches/thread_bench examples/embed examples/own_block examples/pipeline)
 
@@ -24,7 +25,8 @@ put_bench_library() {
     rm -- "$own/src/main.rt"
 }
 
-# put_example EXAMPLE: a program of examples/ as a library, whose `main` takes any runtime, since only a program's own is given one by name
+# put_example EXAMPLE: a program of examples/ as a library, whose `main` takes any runtime, since only a program's own
+# is given one by name
 put_example() {
     local name own
     name=$(crate_of "$1")

@@ -1,6 +1,6 @@
 #!/usr/bin/env bash
-# What a long run of the program shows on a terminal, and elsewhere. It takes the program that ./build made, since `rt try` gives a program no terminal:
-# where that one is missing, or older than its sources, nothing is tried.
+# What a long run of the program shows on a terminal, and elsewhere. It takes the program that ./build made, since `rt
+# try` gives a program no terminal: where that one is missing, or older than its sources, nothing is tried.
 set -euo pipefail
 # shellcheck source=scripts/program.sh
 source "$(dirname -- "$(readlink -f -- "${BASH_SOURCE[0]}")")/../scripts/program.sh"
@@ -37,7 +37,8 @@ END
     echo ']}]'
 }
 
-# on_terminal WORD..: runs the program with these words on a terminal of its own. What it shows is in `shown`, its output in the file `output`
+# on_terminal WORD..: runs the program with these words on a terminal of its own. What it shows is in `shown`, its
+# output in the file `output`
 on_terminal() {
     local status=0
     script -q -e -c "exec $(printf '%q ' "$program" "$@") >$(printf '%q' "$room/output")" "$room/shown" </dev/null >/dev/null || status=$?

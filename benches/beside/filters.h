@@ -1,6 +1,7 @@
 /*
- * Filters: the loop that the definition suggests, and two by hand of an even number of taps, for 32 shorts at a time. Neighbouring products are summed at once in lanes
- * of 32 bits, of light taps, whose distances from 0 sum up to less than 2^16, or of the two halves of each tap.
+ * Filters: the loop that the definition suggests, and two by hand of an even number of taps, for 32 shorts at a time.
+ * Neighbouring products are summed at once in lanes of 32 bits, of light taps, whose distances from 0 sum up to less
+ * than 2^16, or of the two halves of each tap.
  */
 #ifndef FILTERS_H
 #define FILTERS_H
@@ -64,7 +65,8 @@ static inline void store_light(struct sums sums, int16_t *z) {
     store(_mm256_srai_epi32(_mm256_add_epi32(sums.even, half), SHIFT), _mm256_srai_epi32(_mm256_add_epi32(sums.odd, half), SHIFT), z);
 }
 
-/* The sums 256 a + b over 2^SHIFT, rounded. With b + half = 256 t + r and r from 0 to 255 that is a + t over 2^(SHIFT - 8), rounded down: r is too small to matter. */
+/* The sums 256 a + b over 2^SHIFT, rounded. With b + half = 256 t + r and r from 0 to 255 that is a + t over 2^(SHIFT -
+ * 8), rounded down: r is too small to matter. */
 static inline __m256i joined(__m256i a, __m256i b) {
     const __m256i half = _mm256_set1_epi32(1 << (SHIFT - 1));
     const __m256i t = _mm256_srai_epi32(_mm256_add_epi32(b, half), 8);

@@ -1,5 +1,6 @@
 /*
- * The loops that the definitions of kinds suggest, each over `count` items or groups and with two numbers of its own, and memcpy.
+ * The loops that the definitions of kinds suggest, each over `count` items or groups and with two numbers of its own,
+ * and memcpy.
  */
 #ifndef LOOPS_H
 #define LOOPS_H
@@ -10,7 +11,8 @@
 
 typedef void loop(size_t count, int p, int q, const void *first, const void *second, void *out, void *other);
 
-/* A loop from items `x` and `y` of type T to items `z` and `w` of type U, which no caller's constants are compiled into. */
+/* A loop from items `x` and `y` of type T to items `z` and `w` of type U, which no caller's constants are compiled
+ * into. */
 #define LOOP(name, T, U, ...)                                                                                                                              \
     __attribute__((noipa)) static void name(size_t count, int p, int q, const void *restrict first, const void *restrict second, void *restrict out,       \
                                             void *restrict other) {                                                                                        \
@@ -112,7 +114,8 @@ LOOP(additive_scrambler, uint8_t, uint8_t, unsigned word = 1; for (size_t n = 0;
     word = (word << 1 | bit) & (unsigned)q;
 })
 
-/* The code of the polynomials 171 and 133 in `count` blocks of 256 bits, each of which begins in state 0 and has four metrics for each bit. */
+/* The code of the polynomials 171 and 133 in `count` blocks of 256 bits, each of which begins in state 0 and has four
+ * metrics for each bit. */
 enum { STATES = 64, STEPS = 256, OUTPUTS = 4 };
 
 /* What the code gives of the newest bit and a state of six bits before it. */

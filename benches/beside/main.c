@@ -1,6 +1,7 @@
 /*
- * What the kernels and kinds of kernel_bench are measured beside: the loops in C that their definitions suggest, filters by hand with AVX2's intrinsics, memcpy, and
- * VOLK where it is asked for. It prints nanoseconds for each item, the least of many rounds in which the rows take turns.
+ * What the kernels and kinds of kernel_bench are measured beside: the loops in C that their definitions suggest,
+ * filters by hand with AVX2's intrinsics, memcpy, and VOLK where it is asked for. It prints nanoseconds for each item,
+ * the least of many rounds in which the rows take turns.
  *
  *     gcc -O3 -march=x86-64-v3 benches/beside/main.c -o beside
  *     gcc -O3 -march=x86-64-v3 -DVOLK benches/beside/main.c -o beside -lvolk
@@ -27,7 +28,8 @@ struct row {
     size_t items;
 };
 
-/* Inputs and outputs lie so that no load has the low twelve bits of a store shortly before it: the processor would have it wait. */
+/* Inputs and outputs lie so that no load has the low twelve bits of a store shortly before it: the processor would have
+ * it wait. */
 enum { ROOM = FAR + 4096 };
 static _Alignas(4096) uint8_t memory[5 * ROOM];
 static uint8_t *const out = memory, *const other = memory + ROOM + 512, *const wanted = memory + 2 * ROOM;

@@ -1,5 +1,6 @@
 /*
- * What VOLK has that is like a kernel: of 32 bits, and of floats where it has no ints. Its filter is its dot product at each output, which is what GNU Radio's calls.
+ * What VOLK has that is like a kernel: of 32 bits, and of floats where it has no ints. Its filter is its dot product at
+ * each output, which is what GNU Radio's calls.
  */
 #ifndef VECTORS_H
 #define VECTORS_H

@@ -1,4 +1,5 @@
-//! Slices of items of one type, and the loop over one that a block which adds 1 stands for. Programs that time graphs share it.
+//! Slices of items of one type, and the loop over one that a block which adds 1 stands for. Programs that time graphs
+//! share it.
 
 use std::alloc::{AllocError, Global};
 

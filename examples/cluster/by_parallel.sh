@@ -1,6 +1,6 @@
 #!/usr/bin/env bash
-# by_parallel.sh N GRAPH RECORDING JOINED [WORD..]: runs N slices of a recording by GNU parallel, and joins their parts. The words are for parallel, as
-# `--sshloginfile machines`.
+# by_parallel.sh N GRAPH RECORDING JOINED [WORD..]: runs N slices of a recording by GNU parallel, and joins their parts.
+# The words are for parallel, as `--sshloginfile machines`.
 set -euo pipefail
 
 here=$(dirname -- "$(realpath -- "${BASH_SOURCE[0]}")")

@@ -1,5 +1,5 @@
-// No browser starts a worker from a file, nor has a script read another file: where the pages are read without a server, what search/main.js takes for its worker is none,
-// and the index comes as a script.
+// No browser starts a worker from a file, nor has a script read another file: where the pages are read without a
+// server, what search/main.js takes for its worker is none, and the index comes as a script.
 if (location.protocol === "file:") {
     window.Worker = class {
         constructor(path) {

@@ -110,8 +110,9 @@ fn parameters(rt: HostRuntime) -> Result<(), Fail> {
     Ok(())
 }
 
-// Registers of bits, a mask and what they hold, and what they hold behind so many items. One of 3 bits goes round in 7 steps, 1, 3, 7, 6, 5, 2, 4, and one of 2 bits in 3 steps,
-// 1, 3, 2: 2^32 is 4 modulo 7, 2^64 - 1 is 1, and 2^40 is 1 modulo 3. One that sums its last place alone turns its bits about.
+// Registers of bits, a mask and what they hold, and what they hold behind so many items. One of 3 bits goes round in 7
+// steps, 1, 3, 7, 6, 5, 2, 4, and one of 2 bits in 3 steps, 1, 3, 2: 2^32 is 4 modulo 7, 2^64 - 1 is 1, and 2^40 is 1
+// modulo 3. One that sums its last place alone turns its bits about.
 const LATER: [(u32, u64, u64, u64, u64); 18] = [
     (3, 5, 1, 0, 1),
     (3, 5, 1, 1, 3),

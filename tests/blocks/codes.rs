@@ -141,7 +141,8 @@ fn refused(rt: HostRuntime) -> Result<(), Fail> {
     Ok(())
 }
 
-// The tables of the convolutional code of 1 + D^2 and 1 + D + D^2, whose state is the last two bits, the newest the highest.
+// The tables of the convolutional code of 1 + D^2 and 1 + D + D^2, whose state is the last two bits, the newest the
+// highest.
 const NEXT: [i64; 8] = [0, 2, 0, 2, 1, 3, 1, 3];
 const OUTPUT: [i64; 8] = [0, 3, 3, 0, 1, 2, 2, 1];
 

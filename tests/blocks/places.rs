@@ -14,7 +14,8 @@ use std::alloc::Global;
 use std::process::Abort;
 use std::test::Fail;
 
-// A block of any kind, but for its tags: at a rate each goes to the first item that the firing gives which takes its item.
+// A block of any kind, but for its tags: at a rate each goes to the first item that the firing gives which takes its
+// item.
 #[derive(Debug, Drop, PartialEq, Eq)]
 struct Down {
     kind: Kind,

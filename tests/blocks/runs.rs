@@ -100,7 +100,8 @@ fn gives<B: Block>(
 /// About the counts of items at which lanes are full.
 pub const LANE_COUNTS: [usize; 6] = [15, 16, 17, 33, 64, 65];
 
-/// What the tests of blocks go through: each stops the test where a block does not give what it should, in whole or in cuts.
+/// What the tests of blocks go through: each stops the test where a block does not give what it should, in whole or in
+/// cuts.
 #[derive(Drop)]
 pub struct Trials<'a, R> {
     rt: &'a R,

@@ -6,7 +6,8 @@ use items::ItemType::{Byte, Int, Short};
 use std::alloc::Global;
 use std::test::Fail;
 
-// The tables of the convolutional code of 1 + D^2 and 1 + D + D^2, whose state is the last two bits, the newest the highest.
+// The tables of the convolutional code of 1 + D^2 and 1 + D + D^2, whose state is the last two bits, the newest the
+// highest.
 const NEXT: [i64; 8] = [0, 2, 0, 2, 1, 3, 1, 3];
 const OUTPUT: [i64; 8] = [0, 3, 3, 0, 1, 2, 2, 1];
 
@@ -52,7 +53,8 @@ fn decoded(rt: HostRuntime) -> Result<(), Fail> {
     let trials = Trials::new(&rt, a);
     let free = Viterbi::new(a, Byte, &code(3, Some(0), None));
     trials.gives("1 0 1", free, &distances(a, &[3, 1, 0])?, &[1, 0, 1])?;
-    // Of the two paths from state 0 to state 0, the second is the nearer, and then the first. What fills no block gives nothing.
+    // Of the two paths from state 0 to state 0, the second is the nearer, and then the first. What fills no block gives
+    // nothing.
     let tied = Viterbi::new(a, Byte, &code(3, Some(0), Some(0)));
     let came = distances(a, &[3, 1, 2, 0, 1, 0, 3])?;
     trials.gives("two blocks", tied, &came, &[1, 0, 0, 0, 0, 0])?;
@@ -77,7 +79,8 @@ fn mended(rt: HostRuntime) -> Result<(), Fail> {
     let mut pairs = convolved(a, &bits)?;
     let whole = Viterbi::new(a, Byte, &code(100, Some(0), Some(0)));
     trials.gives("as sent", whole, &distances(a, &pairs)?, &bits)?;
-    // Paths that part and meet again differ in five bits at least, so one that is far from others is mended, and two beside each other.
+    // Paths that part and meet again differ in five bits at least, so one that is far from others is mended, and two
+    // beside each other.
     for place in [7, 31, 52, 77] {
         pairs[place] ^= 1;
     }
@@ -150,15 +153,16 @@ fn extremes(rt: HostRuntime) -> Result<(), Fail> {
 fn largest(rt: HostRuntime) -> Result<(), Fail> {
     let a = rt.alloc();
     let trials = Trials::new(&rt, a);
-    // 256 symbols, each with an output of its own, of which the one of symbol 255 costs the least, and then that of symbol 128.
+    // 256 symbols, each with an output of its own, of which the one of symbol 255 costs the least, and then that of
+    // symbol 128.
     let (stays, numbers) = (ramp(a, 256, 0, 0)?, ramp(a, 256, 0, 1)?);
     let mut costs = ramp(a, 1_024, 7, 0)?;
     costs[255] = 3;
     costs[256 + 128] = 3;
     let wide = Viterbi::new(a, Short, &choice(&stays, &numbers, 256, 4));
     trials.gives("all bytes", wide, &costs, &[255, 128, 0, 0])?;
-    // 1,024 states of four symbols lead from s to 4 * s modulo 1,024 and the symbol, so that five symbols are the state: 16 steps of which the first metric
-    // of each is less for the symbol 3.
+    // 1,024 states of four symbols lead from s to 4 * s modulo 1,024 and the symbol, so that five symbols are the
+    // state: 16 steps of which the first metric of each is less for the symbol 3.
     let mut next = Vec::new(a);
     let mut output = Vec::new(a);
     for state in 0..1_024 {

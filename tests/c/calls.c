@@ -1,7 +1,7 @@
 /*
- * Calls of c/magbelu.h. With `check FILE`, `run FILE`, `script FILE LINES` or `items FILE [-b] [-i NAME=PATH].. [-o NAME=PATH].. [-t NAME=PATH]..` it writes what
- * the call gives, and ends with its status. With `wrong` it makes calls that are wrong, and tests what they answer; with `held` it makes the calls of plants.c,
- * streams.c and kernels.c.
+ * Calls of c/magbelu.h. With `check FILE`, `run FILE`, `script FILE LINES` or `items FILE [-b] [-i NAME=PATH].. [-o
+ * NAME=PATH].. [-t NAME=PATH]..` it writes what the call gives, and ends with its status. With `wrong` it makes calls
+ * that are wrong, and tests what they answer; with `held` it makes the calls of plants.c, streams.c and kernels.c.
  */
 #include <stdio.h>
 #include <stdlib.h>

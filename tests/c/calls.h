@@ -1,5 +1,6 @@
 /*
- * What the files of one program share: calls.c has its `main` and these helpers, and plants.c, streams.c, slices.c and kernels.c have the tests that it calls with `held`.
+ * What the files of one program share: calls.c has its `main` and these helpers, and plants.c, streams.c, slices.c and
+ * kernels.c have the tests that it calls with `held`.
  */
 #ifndef CALLS_H
 #define CALLS_H

@@ -1,5 +1,6 @@
 /*
- * Graphs of c/magbelu.hpp that are held: right calls and wrong ones, over the library, or over tests/c/stand_in.cpp, which has the one graph of these.
+ * Graphs of c/magbelu.hpp that are held: right calls and wrong ones, over the library, or over tests/c/stand_in.cpp,
+ * which has the one graph of these.
  */
 #include <array>
 #include <cstdlib>

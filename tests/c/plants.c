@@ -132,8 +132,9 @@ static void settings_and_rates(struct magbelu_plant *plant) {
 }
 
 /*
- * A filter that keeps every third sum, two at a time, behind a block that leaves out five items, and one that puts four zeros before. A firing of the filter takes
- * six items and gives two, so the others fire six times for it, and the sink twice.
+ * A filter that keeps every third sum, two at a time, behind a block that leaves out five items, and one that puts four
+ * zeros before. A firing of the filter takes six items and gives two, so the others fire six times for it, and the sink
+ * twice.
  */
 static void slow_filter(void) {
     static const char file[] = "block = [{ name = \"src\", kind = \"vector_source\", type = \"short\" }, { name = \"skip\", kind = \"skiphead\", type = \"short\", n = 5 },\n"

@@ -1,5 +1,6 @@
 /*
- * Calls about slices of time: the numbers of a plan, where slices begin, what has none, and runs in two slices, one of them by blocks that go on where they stand.
+ * Calls about slices of time: the numbers of a plan, where slices begin, what has none, and runs in two slices, one of
+ * them by blocks that go on where they stand.
  */
 #include <string.h>
 
@@ -135,7 +136,8 @@ static void slices_go_on_with_the_run(void) {
     must(runs(&stream, 0, 40, out, 64) == 20 && out[0] == 1 && out[19] == 8 * 19 - 2, "the slice before it");
 }
 
-/* Sum i is 4i-6. The slice that begins at iteration 20 reads three items before it, so 25 - 17 of its sums are among the first 25. */
+/* Sum i is 4i-6. The slice that begins at iteration 20 reads three items before it, so 25 - 17 of its sums are among
+ * the first 25. */
 static void heads_go_on_where_they_stand(void) {
     struct magbelu_stream stream = opened(headed);
     struct magbelu_cut_part part;

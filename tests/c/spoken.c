@@ -1,6 +1,7 @@
 /*
- * A stream that one thread feeds, settles and drains while another sets its block and asks for what it waits, each under a lock of the program. Of each setting the
- * item is kept from which it is in force, and at the end each item is what the settings make of it. Prints what is wrong, and with the thread sanitizer what races.
+ * A stream that one thread feeds, settles and drains while another sets its block and asks for what it waits, each
+ * under a lock of the program. Of each setting the item is kept from which it is in force, and at the end each item is
+ * what the settings make of it. Prints what is wrong, and with the thread sanitizer what races.
  */
 #include <pthread.h>
 #include <stdio.h>

@@ -1,6 +1,6 @@
 /*
- * Stands for the library under tests/c/held.cpp: the calls that it makes, of one graph, a source `src`, a block `add` that adds ten, and a sink `out`.
- * It keeps no buffers: a settle takes what the tape has, a step counts.
+ * Stands for the library under tests/c/held.cpp: the calls that it makes, of one graph, a source `src`, a block `add`
+ * that adds ten, and a sink `out`. It keeps no buffers: a settle takes what the tape has, a step counts.
  */
 #include <algorithm>
 #include <cstring>

@@ -1,5 +1,6 @@
 /*
- * Calls of c/magbelu.hpp that a file goes into: with `check FILE`, `run FILE` or `script FILE LINES` it writes what the call gives, and ends with its status.
+ * Calls of c/magbelu.hpp that a file goes into: with `check FILE`, `run FILE` or `script FILE LINES` it writes what the
+ * call gives, and ends with its status.
  */
 #include <fstream>
 #include <iostream>

@@ -1,4 +1,5 @@
-//! Tests of graphs, of their rates and capacities, and of what claims decide, through the public calls: graphs worked out by hand.
+//! Tests of graphs, of their rates and capacities, and of what claims decide, through the public calls: graphs worked
+//! out by hand.
 
 mod balances;
 mod claims;

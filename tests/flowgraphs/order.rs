@@ -36,7 +36,8 @@ fn chains_go_from_the_source_on(rt: HostRuntime) -> Result<(), Fail> {
     Ok(())
 }
 
-// Two sources that are added, and a copy of the first: in any order in which writers come first when they were added so, and in such a one when they were not.
+// Two sources that are added, and a copy of the first: in any order in which writers come first when they were added
+// so, and in such a one when they were not.
 #[test]
 fn the_order_of_adding_is_kept_where_it_will_do(rt: HostRuntime) -> Result<(), Fail> {
     let blocks = [plain(b"x", SOURCE), plain(b"copy", SINK), plain(b"y", SOURCE), plain(b"sum", Make::Add), plain(b"out", SINK)];

@@ -50,8 +50,8 @@ fn plan(
     plan
 }
 
-// Blocks between a source and a sink, in a row; the iterations and the items that slices overlap, from which item on the sink's are right, and how many
-// a slice drops.
+// Blocks between a source and a sink, in a row; the iterations and the items that slices overlap, from which item on
+// the sink's are right, and how many a slice drops.
 type Chain = (&'static str, &'static [Make], u64, u64, u64, u64);
 
 const CHAINS: [Chain; 13] = [
@@ -227,8 +227,9 @@ fn counting(heads: [u64; 2], held: u64) -> [Drawn<'static>; 6] {
 const COUNTING_WIRES: [Wire; 5] =
     [(0, 0, 1, 0), (1, 0, 2, 0), (2, 0, 3, 0), (3, 0, 4, 0), (4, 0, 5, 0)];
 
-// In an iteration the source gives 12 items, and `keep` takes them in 2 firings, each of which is 3. So 6 come to the scrambler, whose firing is 2, and to the second head.
-// Behind 2 iterations that is 24 of the first 100, and 12 of the next 10. The register goes round in 7 steps, and stands 5 further.
+// In an iteration the source gives 12 items, and `keep` takes them in 2 firings, each of which is 3. So 6 come to the
+// scrambler, whose firing is 2, and to the second head. Behind 2 iterations that is 24 of the first 100, and 12 of the
+// next 10. The register goes round in 7 steps, and stands 5 further.
 #[test]
 fn later_graphs(rt: HostRuntime) -> Result<(), Fail> {
     let alloc = rt.alloc();

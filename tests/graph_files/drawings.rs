@@ -56,8 +56,8 @@ const ECHO_MERMAID: &str = "flowchart LR
   linkStyle 4 stroke:#9C27B0
 ";
 
-// In an iteration two items of the source become ten, which go to two sinks in turn. Capacities are those of the file where they hold an
-// iteration (b), and else what an iteration puts there.
+// In an iteration two items of the source become ten, which go to two sinks in turn. Capacities are those of the file
+// where they hold an iteration (b), and else what an iteration puts there.
 const TURNS: &str = "block = [
     { name = \"f\", kind = \"null_sink\", type = \"int\" },
     { name = \"a\", kind = \"vector_source\", type = \"short\", capacity = 1 },
@@ -140,8 +140,8 @@ const UNEVEN_DOT: &str = "digraph {
 }
 ";
 
-// Each kind that may stand between a source and a sink, with its keys, the types of both, what is noted, and how many inputs it has.
-// scripts/generate writes these lines from kinds.toml: KINDS
+// Each kind that may stand between a source and a sink, with its keys, the types of both, what is noted, and how many
+// inputs it has. scripts/generate writes these lines from kinds.toml: KINDS
 const KINDS: [(&str, &str, &str, &str, &str, usize); 62] = [
     ("add_const", "type = \"int\"\nvalue = 1", "int", "int", "value 1<br/>", 1),
     ("multiply_const", "type = \"int\"\nvalue = 1", "int", "int", "value 1<br/>", 1),

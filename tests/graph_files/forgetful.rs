@@ -29,8 +29,8 @@ enum Takes {
     Any,
 }
 
-// A kind with one input and one output, and what its text says behind its type: what it takes, what it gives if that is of another type, how many items it gives for how
-// many, and what may be set.
+// A kind with one input and one output, and what its text says behind its type: what it takes, what it gives if that is
+// of another type, how many items it gives for how many, and what may be set.
 type Row = (&'static str, &'static str, Takes, Option<ItemType>, (u64, u64), Sets);
 
 const ONE: [Row; 72] = [
@@ -253,7 +253,8 @@ impl Draft {
         Ok(self.streams.push(Stream { block, port, item, pace, is_read })?)
     }
 
-    // What else the text of a block says: which tags it sends, how often it fires at once, and how few items its outputs hold.
+    // What else the text of a block says: which tags it sends, how often it fires at once, and how few items its
+    // outputs hold.
     fn options(&mut self, alloc: Global, kind: &str, is_one: bool) -> Result<String, Fail> {
         let tags = match self.draw(8) {
             0 => ", tags = 'none'",

@@ -1,5 +1,5 @@
-//! Graphs that are drawn by chance, run whole and in slices that begin anywhere, with marks and settings close together: what slices give, one behind the other, is what
-//! the whole run gives, items and tags.
+//! Graphs that are drawn by chance, run whole and in slices that begin anywhere, with marks and settings close
+//! together: what slices give, one behind the other, is what the whole run gives, items and tags.
 use super::forgetful::{Draft, Sets, Settable};
 use flowgraph::{BlockId, Valid};
 use graph_file::{open_later, read_graph};
@@ -139,7 +139,8 @@ fn value(alloc: Global, call: &Call) -> Result<Value, Fail> {
     }
 }
 
-// Sets and feeds a plant whose blocks stand so many iterations behind the first: what stands between these and others, or their end.
+// Sets and feeds a plant whose blocks stand so many iterations behind the first: what stands between these and others,
+// or their end.
 fn feed(
     rt: &impl Abort,
     alloc: Global,

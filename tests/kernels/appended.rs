@@ -24,7 +24,8 @@ enum Kernel {
 
 use Kernel::*;
 
-// Two items in turn; two others for a kernel of two lists, the constant twice, or the ends of a range; and the two of the output.
+// Two items in turn; two others for a kernel of two lists, the constant twice, or the ends of a range; and the two of
+// the output.
 type Case<T> = (&'static str, Kernel, [T; 2], [T; 2], [T; 2]);
 
 const BYTES: [Case<u8>; 9] = [

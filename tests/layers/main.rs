@@ -1,6 +1,6 @@
-//! The tests of some folders, of which the first word names one; tasks in which an allocation fails, where the program has them; and what the programs of
-//! `benches/` and those of `examples/` print. Where the first word is `copy`, the program copies the file `program`, which lies where it runs, to where the
-//! second word says.
+//! The tests of some folders, of which the first word names one; tasks in which an allocation fails, where the program
+//! has them; and what the programs of `benches/` and those of `examples/` print. Where the first word is `copy`, the
+//! program copies the file `program`, which lies where it runs, to where the second word says.
 #![tactic(auto)]
 
 mod called;

@@ -1,4 +1,5 @@
-//! Runs in threads without callers, of which one allocation may fail. A plant that comes back is run again, to the same sinks.
+//! Runs in threads without callers, of which one allocation may fail. A plant that comes back is run again, to the same
+//! sinks.
 use flowgraph::{BlockId, Graph, Options, Policy};
 use items::ItemType;
 use kinds::{Kind, VectorSink, VectorSource};
@@ -170,8 +171,8 @@ fn is_whole(alloc: Global, plant: &Plant<Kind>) -> bool {
     })
 }
 
-/// Whether the run ended well; or it was refused memory, or before it had begun a thread, and its plant, run again, ends well. Where no thread is to be started none is
-/// refused. Nothing is refused memory any more.
+/// Whether the run ended well; or it was refused memory, or before it had begun a thread, and its plant, run again,
+/// ends well. Where no thread is to be started none is refused. Nothing is refused memory any more.
 pub fn is_right<R: Threads + Wait + Clock + Copy + Send + 'static>(
     rt: R,
     alloc: Global,

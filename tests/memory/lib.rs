@@ -1,6 +1,7 @@
-//! Calls of a library, a run in threads, a call of the program, or the reading of its words and its file, of which one allocation fails. The first word
-//! says which; the second how many allocations are made before, so that the failure of a fixed one comes to each in turn; the third, where a file is read, names it. It writes
-//! whether one of them came to fail; of `steady`, in whose rounds none is made, also whether the one that failed came before them. Where a run in
+//! Calls of a library, a run in threads, a call of the program, or the reading of its words and its file, of which one
+//! allocation fails. The first word says which; the second how many allocations are made before, so that the failure of
+//! a fixed one comes to each in turn; the third, where a file is read, names it. It writes whether one of them came to
+//! fail; of `steady`, in whose rounds none is made, also whether the one that failed came before them. Where a run in
 //! threads was refused, which is told 60 and never 61, a second line has the fault's number.
 
 mod calls;
@@ -58,7 +59,8 @@ enum Task {
     NoThreads,
 }
 
-/// Does the task that the words of the process ask for, and says in which status it ends; `None` where they ask for none.
+/// Does the task that the words of the process ask for, and says in which status it ends; `None` where they ask for
+/// none.
 pub fn answer<R: Host>(rt: R) -> Option<ExitCode> {
     let (task, before, path) = asked(&rt)?;
     let alloc = rt.alloc();
@@ -98,7 +100,8 @@ fn place(is_early: bool, is_late: bool) -> &'static str {
     }
 }
 
-// Whether a fault does not tell of a thread. The allocation that fails is never one that starts a thread, as the C library makes those.
+// Whether a fault does not tell of a thread. The allocation that fails is never one that starts a thread, as the C
+// library makes those.
 fn is_no_thread_refused(fault: Option<u32>) -> bool {
     fault != Some(61)
 }

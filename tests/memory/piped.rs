@@ -1,4 +1,5 @@
-//! A graph file that streams between readers and writers in memory, one of marks among them, alone and with threads that help, of which one allocation may fail.
+//! A graph file that streams between readers and writers in memory, one of marks among them, alone and with threads
+//! that help, of which one allocation may fail.
 use super::streams::Page;
 use flow_core::opening::open_stream;
 use graph_file::FileFault;
@@ -14,7 +15,8 @@ use std::thread::Threads;
 use std::time::{Clock, Duration};
 use streaming::{Helpers, Job, NoHelpers, Unwatched, Worked};
 
-// A source of shorts, a block that adds one, one that keeps the past of two items, and a sink. An item with a tag stands on the tape.
+// A source of shorts, a block that adds one, one that keeps the past of two items, and a sink. An item with a tag
+// stands on the tape.
 const FILE: &str = r#"
 connect = [{ from = "s", to = "a" }, { from = "a", to = "f" }, { from = "f", to = "o" }]
 feed = [{ source = "s", items = [250], tags = [{ at = 0, key = "k", value = -5 }] }]

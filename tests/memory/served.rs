@@ -255,8 +255,8 @@ fn answer_of<R: Threads + Wait + Clock + Copy + Send + Sync + 'static>(
     }
 }
 
-/// Whether the answer is whole; or reports the refusal behind a beginning of it, which of a report is nothing or all, and of a live run has no report; or
-/// is that of the lines without the one that it refuses.
+/// Whether the answer is whole; or reports the refusal behind a beginning of it, which of a report is nothing or all,
+/// and of a live run has no report; or is that of the lines without the one that it refuses.
 pub fn is_right<R: Threads + Wait + Clock + Copy + Send + Sync + 'static>(
     rt: R,
     alloc: Global,
@@ -303,7 +303,8 @@ pub fn run_fault(answer: &Written) -> Option<u32> {
     }
 }
 
-/// Whether a stall is explained; where memory runs out for that, only nothing of the rates. Or the run is refused, before anything is written.
+/// Whether a stall is explained; where memory runs out for that, only nothing of the rates. Or the run is refused,
+/// before anything is written.
 pub fn is_explained(answer: &Written) -> bool {
     let (output, errors) = (answer.output.text(), answer.errors.text());
     if answer.status == 4 {

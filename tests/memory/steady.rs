@@ -1,4 +1,5 @@
-//! Rounds of a plant behind its first ones: claims that are no larger than those before, bring no tags and fill no sink.
+//! Rounds of a plant behind its first ones: claims that are no larger than those before, bring no tags and fill no
+//! sink.
 use fir_blocks::Fir;
 use flowgraph::{BlockId, Graph, Options, Policy};
 use items::{ItemType, Items};
@@ -27,7 +28,8 @@ const WIRES: [(u32, u32, usize); 6] = [
 
 const FED: usize = 480;
 
-/// How many firings the rounds behind the first ones do: in each of 22, 16 of the first four blocks and 8 of the other two.
+/// How many firings the rounds behind the first ones do: in each of 22, 16 of the first four blocks and 8 of the other
+/// two.
 pub const FIRINGS: u64 = 1_760;
 
 // A block fires so often at once, at most.
@@ -80,8 +82,8 @@ pub fn make_ready(alloc: Global) -> Option<Plant<Kind>> {
     Some(plant)
 }
 
-/// How many firings are done until no block can act: by steps, by claims that are committed, and with claims that are given up in between.
-/// The fault is that of the first call that is refused.
+/// How many firings are done until no block can act: by steps, by claims that are committed, and with claims that are
+/// given up in between. The fault is that of the first call that is refused.
 pub fn go_on(alloc: Global, plant: &mut Plant<Kind>) -> Result<u64, PlantFault> {
     let mut done = 0;
     let mut round: u64 = 0;

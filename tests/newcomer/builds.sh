@@ -1,5 +1,6 @@
 # shellcheck shell=bash disable=SC2154,SC2034
-# For tests/parts/newcomer.sh to source: what ./build proves and installs, with tests/newcomer/rt_in_its_place in the place of rt and of the prover.
+# For tests/parts/newcomer.sh to source: what ./build proves and installs, with tests/newcomer/rt_in_its_place in the
+# place of rt and of the prover.
 
 # begin_anew: forgets what was proved so far
 begin_anew() { rm -f "$room/bin/proved" "$room/bin/jobs"; }

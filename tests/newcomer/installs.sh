@@ -10,7 +10,8 @@ brings() { cmp -s "$2" "$elsewhere/a prefix/$1" || wrong "--install brings no $1
 # Prints what stands under the prefix.
 under_prefix() { (cd -- "$elsewhere/a prefix" && find . | LC_ALL=C sort); }
 
-# The program, its man page and its completions stand where a shell looks, under a prefix or under home; other words are refused.
+# The program, its man page and its completions stand where a shell looks, under a prefix or under home; other words are
+# refused.
 install_puts_all_in_place() {
     local file
     begin_anew
@@ -116,7 +117,8 @@ is_refused_for() {
     under_prefix | cmp -s - "$room/before" || wrong "--install changes something, and refuses $1"
 }
 
-# installs_beside PATTERN COMMAND: --install fails where the command is run as a file is copied to a place of this pattern, which is `place` in it
+# installs_beside PATTERN COMMAND: --install fails where the command is run as a file is copied to a place of this
+# pattern, which is `place` in it
 # shellcheck disable=SC2016
 installs_beside() {
     printf '%s\n' '#!/bin/bash' 'place=${*: -1}' "[[ \$place != $1 ]] || { $2; }" "exec $(command -v install) \"\$@\"" >"$room/bin/install"
@@ -186,7 +188,8 @@ program_files() {
 # says PACKAGE FIELD TEXT: its control file
 says() { [[ $(dpkg-deb -f "$tree/out/$1"_*.deb "$2") == "$3" ]] || wrong "$1 has another $2: $(dpkg-deb -f "$tree/out/$1"_*.deb "$2")"; }
 
-# package_chooses: the scripts of the package set Debian's alternatives for the processors that the loader says the machine has, and take both away
+# package_chooses: the scripts of the package set Debian's alternatives for the processors that the loader says the
+# machine has, and take both away
 package_chooses() {
     local folder=/usr/lib/magbelu second="--remove flow /usr/lib/magbelu/x86-64-v3/flow"
     if /lib64/ld-linux-x86-64.so.2 --help | grep -q '^ *x86-64-v3 (supported'; then

@@ -1,5 +1,6 @@
 # shellcheck shell=bash disable=SC2154,SC2034
-# For tests/parts/toolchain.sh to source: what ./flow does with the toolchain itself, and what ./build does, in a checkout of two low crates and a program over them.
+# For tests/parts/toolchain.sh to source: what ./flow does with the toolchain itself, and what ./build does, in a
+# checkout of two low crates and a program over them.
 
 # By the toolchain, through a link, with a relative path, CDPATH, and input that comes later than rt try waits for it.
 real_run_is_unproved() {
@@ -48,7 +49,8 @@ copy_low_crates() {
     printf '%s\n' stream_model: "numbers: stream_model" "$program_crate: stream_model numbers" >"$small/crates.txt"
 }
 
-# The program is refused where its clause is false, and built and linked where it is true; a second build proves nothing.
+# The program is refused where its clause is false, and built and linked where it is true; a second build proves
+# nothing.
 real_build_proves_and_links() {
     local limit=3600 it built=$small/crates/$program_crate/out/built/$program_crate
     copy_low_crates
@@ -68,7 +70,8 @@ real_build_proves_and_links() {
     grep -q " $program_crate is proved already$" "$room/errors" || wrong "the program is proved again"
 }
 
-# The program for x86-64-v3 ends with 127 where the processor is none, and the one for x86-64-v2 runs there. An emulator has such processors.
+# The program for x86-64-v3 ends with 127 where the processor is none, and the one for x86-64-v2 runs there. An emulator
+# has such processors.
 real_programs_look_at_the_processor() {
     local limit=3600 qemu built=$small/crates/$program_crate/out/built/$program_crate
     qemu=$(command -v qemu-x86_64-static || command -v qemu-x86_64) || qemu=

@@ -1,7 +1,9 @@
 # shellcheck shell=bash disable=SC2154,SC2034
-# For tests/parts/newcomer.sh to source: what ./flow does where nothing is built, where something is, and where it was edited since.
+# For tests/parts/newcomer.sh to source: what ./flow does where nothing is built, where something is, and where it was
+# edited since.
 
-# From here on rt, with the toolchain that it names, is the one in its place. It writes its words, its input and what FILE holds.
+# From here on rt, with the toolchain that it names, is the one in its place. It writes its words, its input and what
+# FILE holds.
 unproved_runs_pass_all_on() {
     PATH=$room/bin:$PATH
     printf 'two\nlines\n' >"$room/given"

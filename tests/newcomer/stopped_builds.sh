@@ -1,7 +1,9 @@
 # shellcheck shell=bash disable=SC2154
-# For tests/parts/newcomer.sh to source: what ./build leaves where a proof fails, where a source is edited meanwhile, beside another ./build, and where it is stopped.
+# For tests/parts/newcomer.sh to source: what ./build leaves where a proof fails, where a source is edited meanwhile,
+# beside another ./build, and where it is stopped.
 
-# fails_at CRATE SAYING: a ./build ends in 1, names the file in which the crate's prover says this, and leaves no program
+# fails_at CRATE SAYING: a ./build ends in 1, names the file in which the crate's prover says this, and leaves no
+# program
 fails_at() {
     calls 1 ./build_by_link
     grep -qF " $tree/crates/$1/out/build.log " "$room/errors" || wrong "a failed ./build names no file"
@@ -43,7 +45,8 @@ end_without_verdict_is_no_proof() {
     proved "${above[@]}"
 }
 
-# (which of both texts was proved nobody knows, so the next ./build proves the crate again, and those above it where it comes out as another)
+# (which of both texts was proved nobody knows, so the next ./build proves the crate again, and those above it where it
+# comes out as another)
 edits_during_a_build_are_seen() {
     local crate above
     for crate in "$program_crate" "${order[1]}"; do

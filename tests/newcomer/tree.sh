@@ -1,5 +1,6 @@
 # shellcheck shell=bash disable=SC2154,SC2034
-# For tests/parts/newcomer.sh and tests/parts/toolchain.sh to source: a checkout of a newcomer, and what tests a call of ./flow or ./build there.
+# For tests/parts/newcomer.sh and tests/parts/toolchain.sh to source: a checkout of a newcomer, and what tests a call of
+# ./flow or ./build there.
 
 # A name that a careless script takes apart.
 tree="$room/a checkout"
@@ -28,7 +29,8 @@ try() {
     fi
 }
 
-# thin_tree: leaves a few crates of the checkout, so that a build is short: the program, the library for C, and some below them, of which two stand on the lowest alone
+# thin_tree: leaves a few crates of the checkout, so that a build is short: the program, the library for C, and some
+# below them, of which two stand on the lowest alone
 thin_tree() {
     local it
     printf '%s\n' stream_model: "numbers: stream_model" "settings: stream_model" "items: stream_model numbers" \
@@ -70,7 +72,8 @@ link_tools() {
     done
 }
 
-# calls STATUS COMMAND..: runs the command in the folder elsewhere, for `limit` seconds at the most, and tests its status
+# calls STATUS COMMAND..: runs the command in the folder elsewhere, for `limit` seconds at the most, and tests its
+# status
 calls() {
     local wanted=$1 status=0
     shift

@@ -1,5 +1,6 @@
 # shellcheck shell=bash disable=SC2154
-# For tests/parts/newcomer.sh to source: what scripts/vendor.sh copies into another repository, and where it refuses to. tests/parts/toolchain.sh runs a program there.
+# For tests/parts/newcomer.sh to source: what scripts/vendor.sh copies into another repository, and where it refuses to.
+# tests/parts/toolchain.sh runs a program there.
 
 mine=$room/elsewhere/mine
 

@@ -1,8 +1,9 @@
 #!/usr/bin/env bash
-# The library for C, where ./build --c has built it from these sources: c/magbelu.h compiles as C99 and as C++, and over each example and graph file of tests/ the
-# calls from C and C++, with the sanitizers, and from Python give what is expected, and where ./flow is built what it gives. Elsewhere it only compiles the headers,
-# and tries what c/magbelu.hpp and python/magbelu make of their arguments and of what they find around them, and drawings, plots and type hints. What Python does is
-# tried without numpy, and with numpy and matplotlib where they are installed.
+# The library for C, where ./build --c has built it from these sources: c/magbelu.h compiles as C99 and as C++, and over
+# each example and graph file of tests/ the calls from C and C++, with the sanitizers, and from Python give what is
+# expected, and where ./flow is built what it gives. Elsewhere it only compiles the headers, and tries what
+# c/magbelu.hpp and python/magbelu make of their arguments and of what they find around them, and drawings, plots and
+# type hints. What Python does is tried without numpy, and with numpy and matplotlib where they are installed.
 set -euo pipefail
 # shellcheck source=tests/part.sh
 source "$(dirname -- "$(readlink -f -- "${BASH_SOURCE[0]}")")/../part.sh"
@@ -35,8 +36,8 @@ calls() {
     [[ $status == "$wanted" ]] || wrong "${calls##*/} $*: status $status in place of $wanted: $(head -n 5 "$room/errors")"
 }
 
-# as_flow WORD.. FILE: the call just made wrote what ./flow writes with these words, where that is built, but for the name of the file, which no library knows, and the
-# lines that explain a stall
+# as_flow WORD.. FILE: the call just made wrote what ./flow writes with these words, where that is built, but for the
+# name of the file, which no library knows, and the lines that explain a stall
 as_flow() {
     local line status=0
     if is_fresh; then

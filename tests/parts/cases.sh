@@ -1,7 +1,9 @@
 #!/usr/bin/env bash
-# Calls of the program: those of tests/cases, those of the folders of examples/, and those that pages show, all over one build of it, unproved; and runs between
-# pipes, behind redirections, beside a silent input, on a terminal, and with a trace; runs in slices by the scripts of examples/cluster; and the receiver of examples/receiver. A call is a folder as tests/README.md describes;
-# those of examples and pages are made here. A run is made a second time on one thread, and has to end in the same way.
+# Calls of the program: those of tests/cases, those of the folders of examples/, and those that pages show, all over one
+# build of it, unproved; and runs between pipes, behind redirections, beside a silent input, on a terminal, and with a
+# trace; runs in slices by the scripts of examples/cluster; and the receiver of examples/receiver. A call is a folder as
+# tests/README.md describes; those of examples and pages are made here. A run is made a second time on one thread, and
+# has to end in the same way.
 set -euo pipefail
 # shellcheck source=tests/part.sh
 source "$(dirname -- "$(readlink -f -- "${BASH_SOURCE[0]}")")/../part.sh"
@@ -65,8 +67,8 @@ list() {
         "${received[@]/#/receiver/}"
 }
 
-# word_of FOLDER WORD: prints the word as the program gets it, which runs in a folder of its own: where it is a file, or NAME=FILE, of the case or of
-# tests/graphs, by its whole path
+# word_of FOLDER WORD: prints the word as the program gets it, which runs in a folder of its own: where it is a file, or
+# NAME=FILE, of the case or of tests/graphs, by its whole path
 word_of() {
     local before='' file=$2
     if [[ $2 == *=* ]]; then
@@ -192,8 +194,8 @@ answers() {
 pipes_slow_producer() { answers; }
 pipes_slow_producer_in_pieces() { answers --jobs 2; }
 
-# pipes_fifos_in_pieces: two sources that one sender writes to in turn, somewhat less at a time than a pipe holds: a run that read far ahead of one would never come to
-# the other
+# pipes_fifos_in_pieces: two sources that one sender writes to in turn, somewhat less at a time than a pipe holds: a run
+# that read far ahead of one would never come to the other
 pipes_fifos_in_pieces() {
     local folder=$room/fifos count=100000
     mkdir "$folder"
@@ -264,8 +266,8 @@ spoken_in() {
     fi
 }
 
-# traced MOST WORD..: a run with these words, whose trace has room for so many turns and waits and goes with the times of the same run; `said` has the lines before
-# these
+# traced MOST WORD..: a run with these words, whose trace has room for so many turns and waits and goes with the times
+# of the same run; `said` has the lines before these
 traced() {
     local most=$1
     shift
@@ -299,7 +301,8 @@ traces_between_files() {
     differs firings <(echo "('src', 100000) ('a', 100000) ('out', 100000)") "$room/firings"
 }
 
-# traces_now_and_then: the times of a run so far, of which each report is a line, while its items come in three parts (when each comes is up to the machine)
+# traces_now_and_then: the times of a run so far, of which each report is a line, while its items come in three parts
+# (when each comes is up to the machine)
 traces_now_and_then() {
     for _ in 1 2 3; do
         head -c 1000 /dev/zero
@@ -329,7 +332,8 @@ traces_first_events() {
     fi
 }
 
-# traces_picture: the script that draws a trace makes XML, with a rectangle for each turn and each wait that lasts, beside the ground
+# traces_picture: the script that draws a trace makes XML, with a rectangle for each turn and each wait that lasts,
+# beside the ground
 traces_picture() {
     local said='' spans drawn
     traced 100000 --one-thread || return

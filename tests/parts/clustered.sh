@@ -1,7 +1,8 @@
 # shellcheck shell=bash disable=SC2154
-# For cases.sh to source: the scripts of examples/cluster, by hand and by GNU parallel, Dask and Slurm, where these are installed: a scheduler, its workers and
-# daemons are started by the case, on loopback and on ports that are free, and ended by it. What has to come are the samples that examples/signal/make.py computes from the
-# filter's equation, without the two that its silence gives; each case runs in a folder of a name that wants quotes.
+# For cases.sh to source: the scripts of examples/cluster, by hand and by GNU parallel, Dask and Slurm, where these are
+# installed: a scheduler, its workers and daemons are started by the case, on loopback and on ports that are free, and
+# ended by it. What has to come are the samples that examples/signal/make.py computes from the filter's equation,
+# without the two that its silence gives; each case runs in a folder of a name that wants quotes.
 
 clustered=(
     by_hand
@@ -133,13 +134,15 @@ badly() {
 # joins COMMAND..: the script, which gets `words` behind its own, joins eight slices to what is wanted
 joins() { well "$@" 8 graph recording joined "${words[@]}" && cmp joined wanted 2>&1; }
 
-# joins_and_refuses COMMAND..: the same; called once more it is refused, since the parts are there; and it makes nothing of a graph that is not cut
+# joins_and_refuses COMMAND..: the same; called once more it is refused, since the parts are there; and it makes nothing
+# of a graph that is not cut
 joins_and_refuses() {
     joins "$@" && badly "$@" 8 graph recording joined && badly "$@" 8 "$top/examples/signal/graph.toml" recording uncut || return
     holds "nothing is made of a graph that is not cut" [ ! -e uncut ]
 }
 
-# with_a_kill KILLS COMMAND..: the first run of slice 3 is killed, with so many of its parents, and the script joins what is wanted
+# with_a_kill KILLS COMMAND..: the first run of slice 3 is killed, with so many of its parents, and the script joins
+# what is wanted
 with_a_kill() {
     export KILLED=$here/killed KILLS=$1
     joins "${@:2}" && holds "slice 3 was killed" [ -d killed ]
@@ -167,7 +170,8 @@ is_third() { cmp -- "$1" <(tail -c +5001 wanted | head -c 2500) 2>&1; }
 # third_of_eight: the slice is run
 third_of_eight() { well "$cluster/slice.sh" graph recording joined 8 3 && is_third joined.parts/part.3; }
 
-# a slice that is killed leaves the beginning of its part under another name, and one that is called again makes the part
+# a slice that is killed leaves the beginning of its part under another name, and one that is called again makes the
+# part
 killed_slice() {
     mkdir joined.parts
     KILLED=$here/killed KILLS=1 badly "$cluster/slice.sh" graph recording joined 8 3 || return
@@ -175,7 +179,8 @@ killed_slice() {
     holds "there is no half part" [ ! -e joined.parts/part.3 ] && third_of_eight
 }
 
-# one that goes on, as on a machine that was given up, makes the whole part, though another is killed that began meanwhile
+# one that goes on, as on a machine that was given up, makes the whole part, though another is killed that began
+# meanwhile
 slice_at_work_twice() {
     local first
     mkdir joined.parts
@@ -231,8 +236,8 @@ by_dask_with_a_killed_worker() {
     holds "the scheduler and one worker are left" [ "$(jobs -rp | wc -l)" = 2 ]
 }
 
-# write_slurm_conf PORT PORT PORT: a cluster of two nodes, both this machine, which tracks processes without cgroups, gives up a node that is silent for ten seconds, and
-# begins a task anew only where it is asked to
+# write_slurm_conf PORT PORT PORT: a cluster of two nodes, both this machine, which tracks processes without cgroups,
+# gives up a node that is silent for ten seconds, and begins a task anew only where it is asked to
 write_slurm_conf() {
     local host
     host=$(hostname -s)

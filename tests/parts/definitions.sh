@@ -1,7 +1,7 @@
 #!/usr/bin/env bash
-# Turned definitions: each has to be refused by the laws. The gate tries an edit in its own crate alone, and these definitions stand
-# below the laws that hold them, so they are tried in a copy of the crates of definitions and laws. That takes minutes of the prover, so ./test tries it by its
-# name alone.
+# Turned definitions: each has to be refused by the laws. The gate tries an edit in its own crate alone, and these
+# definitions stand below the laws that hold them, so they are tried in a copy of the crates of definitions and laws.
+# That takes minutes of the prover, so ./test tries it by its name alone.
 set -euo pipefail
 # shellcheck source=tests/part.sh
 source "$(dirname -- "$(readlink -f -- "${BASH_SOURCE[0]}")")/../part.sh"
@@ -24,7 +24,8 @@ is_proved() {
     (cd "$room/turned/crates/$1" && rt check >"$room/said" 2>&1 </dev/null)
 }
 
-# refuses CRATE FILE OLD NEW: whether with NEW in place of OLD, which stands once in the file, the crate is not proved; says what is wrong
+# refuses CRATE FILE OLD NEW: whether with NEW in place of OLD, which stands once in the file, the crate is not proved;
+# says what is wrong
 refuses() {
     local file=$room/turned/crates/$2 whole refused=1
     whole=$(<"$file")

@@ -11,7 +11,8 @@ results=$room
 room=$(mktemp -d)
 trap 'rm -rf -- "$room"' EXIT
 
-# expect NAME STATUS TEXT COMMAND..: the command ends with the status, and what it says has the text, or is nothing where the text is empty
+# expect NAME STATUS TEXT COMMAND..: the command ends with the status, and what it says has the text, or is nothing
+# where the text is empty
 expect() {
     local status=0 name=edits/${1// /_}
     if [[ $mode == list ]]; then
@@ -29,7 +30,8 @@ expect() {
     fi
 }
 
-# fits FOLDER EDIT..: each old text of the edits stands once in a file of the crate in that folder, as the earlier ones left it
+# fits FOLDER EDIT..: each old text of the edits stands once in a file of the crate in that folder, as the earlier ones
+# left it
 fits() {
     local edit line key text file='' old=''
     for edit in "${@:2}"; do

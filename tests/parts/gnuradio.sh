@@ -1,8 +1,10 @@
 #!/usr/bin/env bash
-# python/magbelu/gnuradio.py inside GNU Radio, where that is installed and ./build --c has built the library from these sources: tests/gnuradio/cases.py has the cases.
-# tests/gnuradio/own.py, endless.py, television.py and trellises.py hold what stands for GNU Radio's blocks against these, modem.py the graphs of examples/receiver,
-# and coverage.py holds the table of all blocks against those that are installed. Graphs that are drawn by chance run beside `flow run`, which is compiled here, unproved,
-# where ./build has not built it. Which graphs are a block is tried over a stand-in for the library too; and that the module says what it lacks where there is no GNU Radio, everywhere.
+# python/magbelu/gnuradio.py inside GNU Radio, where that is installed and ./build --c has built the library from these
+# sources: tests/gnuradio/cases.py has the cases. tests/gnuradio/own.py, endless.py, television.py and trellises.py hold
+# what stands for GNU Radio's blocks against these, modem.py the graphs of examples/receiver, and coverage.py holds the
+# table of all blocks against those that are installed. Graphs that are drawn by chance run beside `flow run`, which is
+# compiled here, unproved, where ./build has not built it. Which graphs are a block is tried over a stand-in for the
+# library too; and that the module says what it lacks where there is no GNU Radio, everywhere.
 set -euo pipefail
 # shellcheck source=tests/part.sh
 source "$(dirname -- "$(readlink -f -- "${BASH_SOURCE[0]}")")/../part.sh"
@@ -38,7 +40,8 @@ in_gnuradio() {
     HOME=$room MAGBELU_LIBRARY=$c_folder/libmagbelu.so PYTHONPATH=$top/python timeout 300 "$python" "$top/tests/gnuradio/$1" "${@:2}"
 }
 
-# with_program COMMAND..: the command, and behind it the words that start the program, which is compiled here where ./build has not built it
+# with_program COMMAND..: the command, and behind it the words that start the program, which is compiled here where
+# ./build has not built it
 with_program() {
     start=("$program")
     if ! is_fresh; then
@@ -67,7 +70,8 @@ else:
     raise AssertionError("a block without GNU Radio")'
 }
 
-# try WHY CASE COMMAND..: the command is the case, if it is wanted, and unless there is a reason why it cannot be tried here
+# try WHY CASE COMMAND..: the command is the case, if it is wanted, and unless there is a reason why it cannot be tried
+# here
 try() {
     if ! is_wanted "$2"; then
         return

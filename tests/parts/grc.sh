@@ -1,5 +1,6 @@
 #!/usr/bin/env bash
-# What flow-from-grc writes for drawings of GNU Radio Companion, and how it refuses those that are none: tests/grc/run.py has the cases.
+# What flow-from-grc writes for drawings of GNU Radio Companion, and how it refuses those that are none:
+# tests/grc/run.py has the cases.
 set -euo pipefail
 top=$(dirname -- "$(readlink -f -- "${BASH_SOURCE[0]}")")/../..
 

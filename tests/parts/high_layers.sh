@@ -1,5 +1,6 @@
 #!/usr/bin/env bash
-# Tests of libraries through their public calls: of those above the plant, and of files of the program in tests/terminal; and tasks in which an allocation fails.
+# Tests of libraries through their public calls: of those above the plant, and of files of the program in
+# tests/terminal; and tasks in which an allocation fails.
 set -euo pipefail
 # shellcheck source=tests/layers.sh
 source "$(dirname -- "$(readlink -f -- "${BASH_SOURCE[0]}")")/../layers.sh"

@@ -1,6 +1,7 @@
 #!/usr/bin/env bash
-# The cases of tests/cases/kinds, and so each kernel, by the built program for each level of processors that this machine has, as ./build --install and --deb make them; which level
-# it tells; and how much memory a run in pieces of a long stream has.
+# The cases of tests/cases/kinds, and so each kernel, by the built program for each level of processors that this
+# machine has, as ./build --install and --deb make them; which level it tells; and how much memory a run in pieces of a
+# long stream has.
 set -euo pipefail
 # shellcheck source=tests/part.sh
 source "$(dirname -- "$(readlink -f -- "${BASH_SOURCE[0]}")")/../part.sh"

@@ -1,5 +1,6 @@
 #!/usr/bin/env bash
-# Tests of libraries through their public calls: of those up to the plant; and what the programs of benches/ and those of examples/ print.
+# Tests of libraries through their public calls: of those up to the plant; and what the programs of benches/ and those
+# of examples/ print.
 set -euo pipefail
 # shellcheck source=tests/layers.sh
 source "$(dirname -- "$(readlink -f -- "${BASH_SOURCE[0]}")")/../layers.sh"

@@ -1,6 +1,7 @@
 #!/usr/bin/env bash
-# That the manual which `./build --docs` makes has each page of its shelves and each public name, that its links lead to a page and a heading of it, that it loads nothing
-# from elsewhere, and that its search answers each question of tests/manual/questions.txt with the page that answers it. It needs Debian's package mkdocs.
+# That the manual which `./build --docs` makes has each page of its shelves and each public name, that its links lead to
+# a page and a heading of it, that it loads nothing from elsewhere, and that its search answers each question of
+# tests/manual/questions.txt with the page that answers it. It needs Debian's package mkdocs.
 set -euo pipefail
 # shellcheck source=tests/part.sh
 source "$(dirname -- "$(readlink -f -- "${BASH_SOURCE[0]}")")/../part.sh"

@@ -1,8 +1,9 @@
 #!/usr/bin/env bash
-# What a newcomer meets who calls ./flow and ./build: in a checkout that is not built, that was edited since, from another folder,
-# through a link, without the toolchain, where nothing can be written, beside another ./build, with a crate that is not proved; and what scripts/vendor.sh copies.
-# tests/newcomer/rt_in_its_place stands in the place of the toolchain; tests/parts/toolchain.sh has what goes through that itself. Each case goes on from where
-# the one before it left off, so that all up to the last that is wanted are run.
+# What a newcomer meets who calls ./flow and ./build: in a checkout that is not built, that was edited since, from
+# another folder, through a link, without the toolchain, where nothing can be written, beside another ./build, with a
+# crate that is not proved; and what scripts/vendor.sh copies. tests/newcomer/rt_in_its_place stands in the place of the
+# toolchain; tests/parts/toolchain.sh has what goes through that itself. Each case goes on from where the one before it
+# left off, so that all up to the last that is wanted are run.
 set -euo pipefail
 # shellcheck source=tests/part.sh
 source "$(dirname -- "$(readlink -f -- "${BASH_SOURCE[0]}")")/../part.sh"

@@ -1,8 +1,9 @@
 #!/usr/bin/env bash
-# The packages for Debian that ./build --deb has made of these sources, in a fresh Debian of their own without the toolchain: README's first command on the example
-# that they bring, the program of docs/user/C.md in C, the package for Python, the receiver in the page of magbelu-studio, the block of GNU Radio, and that nothing
-# of them stays. It takes root, debootstrap and some minutes of a network, so ./test tries it by its name alone. What debootstrap brings is kept at $MAGBELU_DEBIAN for a next
-# run, where that names a folder.
+# The packages for Debian that ./build --deb has made of these sources, in a fresh Debian of their own without the
+# toolchain: README's first command on the example that they bring, the program of docs/user/C.md in C, the package for
+# Python, the receiver in the page of magbelu-studio, the block of GNU Radio, and that nothing of them stays. It takes
+# root, debootstrap and some minutes of a network, so ./test tries it by its name alone. What debootstrap brings is kept
+# at $MAGBELU_DEBIAN for a next run, where that names a folder.
 set -euo pipefail
 # shellcheck source=tests/part.sh
 source "$(dirname -- "$(readlink -f -- "${BASH_SOURCE[0]}")")/../part.sh"
@@ -38,7 +39,8 @@ around=(env -i PATH=/usr/sbin:/usr/bin:/sbin:/bin HOME=/root LC_ALL=C DEBIAN_FRO
 # inside COMMAND..: runs the command in the fresh system
 inside() { chroot "$system" "${around[@]}" "$@"; }
 
-# beside_processes COMMAND..: the same where the processes and the devices of the machine are seen, which a browser looks for
+# beside_processes COMMAND..: the same where the processes and the devices of the machine are seen, which a browser
+# looks for
 # shellcheck disable=SC2016
 beside_processes() { unshare --mount sh -c 'mount --rbind /proc "$0/proc" && mount --rbind /dev "$0/dev" && exec chroot "$0" "$@"' "$system" "${around[@]}" "$@"; }
 
@@ -108,8 +110,8 @@ drawing_is_converted() {
     gives "$(<"$top/examples/grc/rates.toml")" sh -c 'flow-from-grc /root/rates.grc 2>/dev/null'
 }
 
-# The receiver of the examples in the page of magbelu-studio: its spectrum, waterfall and bits within three seconds of the command, and a filter that is turned. The
-# pictures of before and after go to out/.
+# The receiver of the examples in the page of magbelu-studio: its spectrum, waterfall and bits within three seconds of
+# the command, and a filter that is turned. The pictures of before and after go to out/.
 page_shows_the_receiver() {
     inside apt-get install --yes --no-install-recommends chromium chromium-driver python3-aiohttp python3-selenium
     cp -r -- "$top/tests/studio" "$system/root/studio"

@@ -1,6 +1,7 @@
 #!/usr/bin/env bash
-# That the counts of docs/proof/BELIEVED.md are what `scripts/promised.py` makes of the sources, of which it can make all pages, that it finds what contracts rest on in two
-# crates whose answer was worked out by hand, and that each relative link of the docs leads to a file and a heading.
+# That the counts of docs/proof/BELIEVED.md are what `scripts/promised.py` makes of the sources, of which it can make
+# all pages, that it finds what contracts rest on in two crates whose answer was worked out by hand, and that each
+# relative link of the docs leads to a file and a heading.
 set -euo pipefail
 # shellcheck source=tests/part.sh
 source "$(dirname -- "$(readlink -f -- "${BASH_SOURCE[0]}")")/../part.sh"

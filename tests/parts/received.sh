@@ -1,5 +1,6 @@
 # shellcheck shell=bash disable=SC2034,SC2154
-# For cases.sh to source: examples/receiver and the page docs/user/TUTORIAL.md, whose commands are run as they stand. What has to come is computed by numpy.
+# For cases.sh to source: examples/receiver and the page docs/user/TUTORIAL.md, whose commands are run as they stand.
+# What has to come is computed by numpy.
 
 received=(page errors pictures)
 

@@ -1,6 +1,7 @@
 # shellcheck shell=bash disable=SC2154
-# For cases.sh to source: calls of the program whose standard streams a shell has led to files and pipes, or has closed. Each runs in a folder of its own, in
-# which the file `in` has a thousand bytes, `marks` a mark, and `wanted` what comes of the bytes in tests/graphs/plain.toml, which adds ten to each.
+# For cases.sh to source: calls of the program whose standard streams a shell has led to files and pipes, or has closed.
+# Each runs in a folder of its own, in which the file `in` has a thousand bytes, `marks` a mark, and `wanted` what comes
+# of the bytes in tests/graphs/plain.toml, which adds ten to each.
 
 redirected=(
     report_beside_items_in_its_file

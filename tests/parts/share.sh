@@ -1,8 +1,10 @@
 #!/usr/bin/env bash
-# That the man pages and the completions of share/ have the words of `flow` and `flow-from-grc`: of each command the options that its help has, with the words that may
-# stand behind one, and no others, and what the help says of them; that the man page has the keys of a graph file and the commands of a script; and what bash, zsh and
-# fish offer for a line. The help is that of tests/cases/words, which are held against the program. And that all places that name a version name the same, and that
-# docs/user/echo.svg shows what the program draws, and docs/contribute/crates.svg the crates.
+# That the man pages and the completions of share/ have the words of `flow` and `flow-from-grc`: of each command the
+# options that its help has, with the words that may stand behind one, and no others, and what the help says of them;
+# that the man page has the keys of a graph file and the commands of a script; and what bash, zsh and fish offer for a
+# line. The help is that of tests/cases/words, which are held against the program. And that all places that name a
+# version name the same, and that docs/user/echo.svg shows what the program draws, and docs/contribute/crates.svg the
+# crates.
 set -euo pipefail
 # shellcheck source=tests/part.sh
 source "$(dirname -- "$(readlink -f -- "${BASH_SOURCE[0]}")")/../part.sh"
@@ -142,7 +144,8 @@ fish_offers() {
 # zsh_offers LINE
 zsh_offers() { env HOME="$room" timeout 60 zsh -f "$top/tests/completed.zsh" "$share/zsh/site-functions" "$1"; }
 
-# offers LINE WORD..: what the shell offers for the line is these words, in any order, behind what stands before their last `=` already
+# offers LINE WORD..: what the shell offers for the line is these words, in any order, behind what stands before their
+# last `=` already
 offers() {
     local came wanted
     came=$(cd -- "$room/offered" && "${shell}_offers" "$1" | sed -E 's/^--[a-z]+=//; s/^[a-z]+=(.)/\1/' | LC_ALL=C sort | paste -sd ' ')
@@ -230,7 +233,8 @@ picture() {
     fi
 }
 
-# picture_of_crates: that of docs/contribute/ARCHITECTURE.md is that of crates.txt, in which no crate uses one of a layer above
+# picture_of_crates: that of docs/contribute/ARCHITECTURE.md is that of crates.txt, in which no crate uses one of a
+# layer above
 picture_of_crates() {
     local said
     if ! command -v python3 >/dev/null; then

@@ -1,6 +1,7 @@
 # shellcheck shell=bash disable=SC2154
-# For tests/parts/cases.sh to source: cases of what is shown elsewhere, each made as a folder like those of tests/cases: the files of examples/, the calls
-# of `flow` on examples that README.md, docs/ and the examples show behind a `$`, each with what it writes, and the graph of the man page.
+# For tests/parts/cases.sh to source: cases of what is shown elsewhere, each made as a folder like those of tests/cases:
+# the files of examples/, the calls of `flow` on examples that README.md, docs/ and the examples show behind a `$`, each
+# with what it writes, and the graph of the man page.
 
 # Of each case that was made its name, which is its folder below that of all.
 made=()
@@ -19,7 +20,8 @@ make() {
 # end_of OUTPUT: prints the status of a call that writes this: one that stalls says so in its last line
 end_of() { [[ ${1##*$'\n'} == stalled ]] && echo 3 || echo 0; }
 
-# make_example FOLDER: what `check`, `draw`, `run`, its script or its live run, whichever it has a file for, writes for its graph file
+# make_example FOLDER: what `check`, `draw`, `run`, its script or its live run, whichever it has a file for, writes for
+# its graph file
 make_example() {
     local name file wanted errors it
     name=examples/$(basename -- "$1")
@@ -44,8 +46,8 @@ make_example() {
     done
 }
 
-# make_recording: the recording of examples/signal through its filter, beside what make.py computes from the filter's equation. The files have the sums that
-# the example shows.
+# make_recording: the recording of examples/signal through its filter, beside what make.py computes from the filter's
+# equation. The files have the sums that the example shows.
 make_recording() {
     local maker=$top/examples/signal/make.py name=examples/signal/recorded wanted
     mkdir -p "$shown/$name"
@@ -60,7 +62,8 @@ make_recording() {
     cp -- "$top/examples/signal/graph.toml" "$shown/$name"
 }
 
-# make_call CASE OUTPUT WORD..: a call as a page shows it, with < FILE for its standard input. What it says of a stall goes to standard error
+# make_call CASE OUTPUT WORD..: a call as a page shows it, with < FILE for its standard input. What it says of a stall
+# goes to standard error
 make_call() {
     local name=$1 output=$2 words=() graph='' input='' errors
     shift 2
@@ -81,8 +84,8 @@ make_call() {
     fi
 }
 
-# make_raw_call CASE RECORDING OUTPUT WORD..: a call between raw files as a page shows it, behind a line that makes the recording: the items that it writes are those that
-# make.py computes, and the tags those that the example shows
+# make_raw_call CASE RECORDING OUTPUT WORD..: a call between raw files as a page shows it, behind a line that makes the
+# recording: the items that it writes are those that make.py computes, and the tags those that the example shows
 make_raw_call() {
     local folder=$shown/$1 signal=$shown/examples/signal/recorded it file
     if [[ ! -e $signal/filtered.s16 ]]; then
@@ -106,8 +109,8 @@ make_raw_call() {
     done
 }
 
-# make_pipe CASE OUTPUT BYTES WORD..: a call between pipes as a page shows it, with what printf is given for its standard input; the numbers of the bytes that od
-# shows stand behind the report
+# make_pipe CASE OUTPUT BYTES WORD..: a call between pipes as a page shows it, with what printf is given for its
+# standard input; the numbers of the bytes that od shows stand behind the report
 make_pipe() {
     local name=$1 bytes
     bytes=$(grep '^ ' <<<"$2" | xargs printf '\\x%x')
@@ -118,7 +121,8 @@ make_pipe() {
     grep -v '^ ' <<<"$2" >"$shown/$name/stderr"
 }
 
-# make_calls_of FILE: the calls that a page shows; in a fence without a language each runs from its `$` to the next, or to the end of the fence
+# make_calls_of FILE: the calls that a page shows; in a fence without a language each runs from its `$` to the next, or
+# to the end of the fence
 make_calls_of() {
     local line page call='' words=() output='' recording='' in_fence=0 number=0
     page=${1#"$top"/}

@@ -1,6 +1,6 @@
 # shellcheck shell=bash disable=SC2154
-# For cases.sh to source, behind redirected.sh, whose words it uses: runs with several inputs of which one is silent for a while. Each runs in a folder of its own, with
-# the pipes `a`, `b` and `m`.
+# For cases.sh to source, behind redirected.sh, whose words it uses: runs with several inputs of which one is silent for
+# a while. Each runs in a folder of its own, with the pipes `a`, `b` and `m`.
 
 silent=(
     one_of_two_pipes

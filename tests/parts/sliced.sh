@@ -1,6 +1,6 @@
 # shellcheck shell=bash disable=SC2154
-# For tests/parts/cases.sh to source: graphs that are drawn by chance, which are run whole and in slices; runs in slices that are killed, or end badly; which runs are
-# sliced by themselves; and one in a recording of a terabyte.
+# For tests/parts/cases.sh to source: graphs that are drawn by chance, which are run whole and in slices; runs in slices
+# that are killed, or end badly; which runs are sliced by themselves; and one in a recording of a terabyte.
 
 sliced=(drawn killed gone_on bad_ends threads far)
 
@@ -13,7 +13,8 @@ slices_killed() { python3 "$top/tests/programs/slice_ends.py" killed "${start[@]
 # slices_gone_on: that runs go on with items and tags that are cut anywhere, to the whole
 slices_gone_on() { python3 "$top/tests/programs/slice_ends.py" tags "${start[@]}"; }
 
-# slices_bad_ends: that runs in pieces, and slices, end as one on one thread does, where an input, an output or marks are at fault
+# slices_bad_ends: that runs in pieces, and slices, end as one on one thread does, where an input, an output or marks
+# are at fault
 slices_bad_ends() { python3 "$top/tests/programs/slice_ends.py" bad "${start[@]}"; }
 
 # slices_threads: which runs between files take a thread for each processor by themselves
@@ -28,8 +29,8 @@ slices_lack() {
     fi
 }
 
-# slices_far: that ten items from one on that stands behind half a terabyte are those of the whole run: the sums of the last three of the numbers from 1 to 8, which
-# stand there, and then of zeros
+# slices_far: that ten items from one on that stands behind half a terabyte are those of the whole run: the sums of the
+# last three of the numbers from 1 to 8, which stand there, and then of zeros
 slices_far() {
     local at=$((1 << 38))
     printf '\1\0\2\0\3\0\4\0\5\0\6\0\7\0\10\0' | dd of="$room/terabyte" bs=2 seek="$at" conv=notrunc status=none || return

@@ -1,6 +1,6 @@
 #!/usr/bin/env bash
-# magbelu-studio: tests/studio/cases.py has the cases. They need ./build --c's library and Python's aiohttp, and those in a browser chromium with its driver and Python's
-# selenium too.
+# magbelu-studio: tests/studio/cases.py has the cases. They need ./build --c's library and Python's aiohttp, and those
+# in a browser chromium with its driver and Python's selenium too.
 set -euo pipefail
 # shellcheck source=tests/part.sh
 source "$(dirname -- "$(readlink -f -- "${BASH_SOURCE[0]}")")/../part.sh"
@@ -40,7 +40,8 @@ without_numpy() {
     hidden=$room/hidden: "$@"
 }
 
-# try WHY CASE COMMAND..: the command is the case, if it is wanted, and unless there is a reason why it cannot be tried here
+# try WHY CASE COMMAND..: the command is the case, if it is wanted, and unless there is a reason why it cannot be tried
+# here
 try() {
     local status=0
     if ! is_wanted "$2"; then

@@ -1,5 +1,6 @@
 #!/usr/bin/env bash
-# What ./flow and ./build do with the toolchain itself: one run unproved, and one build of three crates; and a program in a repository of its own. It takes minutes, so ./test tries it by its name alone.
+# What ./flow and ./build do with the toolchain itself: one run unproved, and one build of three crates; and a program
+# in a repository of its own. It takes minutes, so ./test tries it by its name alone.
 set -euo pipefail
 # shellcheck source=tests/part.sh
 source "$(dirname -- "$(readlink -f -- "${BASH_SOURCE[0]}")")/../part.sh"

@@ -1,5 +1,6 @@
-//! Each call of a plant, and of one that streams, as it is answered and as it is refused, where there is memory enough: none of them says that there is too little. The
-//! clauses of a call let it say so at any time, since what the allocator refuses is known to no clause.
+//! Each call of a plant, and of one that streams, as it is answered and as it is refused, where there is memory enough:
+//! none of them says that there is too little. The clauses of a call let it say so at any time, since what the
+//! allocator refuses is known to no clause.
 use super::drawn::{MIDDLE, Make, SINK, SOURCE, Wire, bytes, mark, plant, streaming};
 use flowgraph::BlockId;
 use items::{ItemType, Items};

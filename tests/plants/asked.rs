@@ -1,4 +1,5 @@
-//! What a pipeline is asked while it runs: it answers in turn, and writes what a plant gives that was handed the same at the same items.
+//! What a pipeline is asked while it runs: it answers in turn, and writes what a plant gives that was handed the same
+//! at the same items.
 ghost use Rattle.std.specs.Prelude.{[], None};
 
 use super::drawn::{Make, Wire, bytes, plant, streaming};
@@ -112,7 +113,8 @@ fn written<'a>(rt: &impl Abort, run: &'a Run, sink: u32) -> &'a [u8] {
     }
 }
 
-// Asserts that all sinks were given what they take where a plant is handed these settings at these items, and the first `fed` of the tape.
+// Asserts that all sinks were given what they take where a plant is handed these settings at these items, and the first
+// `fed` of the tape.
 fn same_as_whole(
     rt: &impl Abort,
     alloc: Global,

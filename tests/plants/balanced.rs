@@ -1,5 +1,5 @@
-//! Balanced graphs of ten blocks, drawn by chance, with no more capacity than their rates ask for. In whatever order their blocks act, they come to
-//! their end, and each sink holds the whole stream that lists of numbers give.
+//! Balanced graphs of ten blocks, drawn by chance, with no more capacity than their rates ask for. In whatever order
+//! their blocks act, they come to their end, and each sink holds the whole stream that lists of numbers give.
 use super::drawn::{Make, Wire, bytes, plant};
 use super::orders::drawn;
 use flowgraph::BlockId;

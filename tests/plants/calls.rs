@@ -89,7 +89,8 @@ fn jobs_are_taken_only_by_their_claim(rt: HostRuntime) -> Result<(), Fail> {
     let job = claimed(&rt, alloc, &mut plant_two, MIDDLE);
     let _ = comes_back(&rt, &mut plant_two, copy.work());
     taken(&rt, &mut plant_two, job.work());
-    // A job of a plant with other items, or with another block in its place, comes back; that of an equal plant is taken.
+    // A job of a plant with other items, or with another block in its place, comes back; that of an equal plant is
+    // taken.
     let mut plant_three = fed(&rt, alloc);
     let mut other = fed_with(&rt, alloc, Make::AddConst(10), &[250, 2]);
     let mut product = fed_with(&rt, alloc, Make::MultiplyConst(10), &[250, 1]);

@@ -54,7 +54,8 @@ fn made(make: Make) -> Result<Kind, ParamFault> {
     })
 }
 
-// The graph of these blocks and connections, whose buffers hold so many items where that is enough. What is refused ends the test.
+// The graph of these blocks and connections, whose buffers hold so many items where that is enough. What is refused
+// ends the test.
 fn graph(
     rt: &impl Abort,
     alloc: Global,
@@ -88,7 +89,8 @@ fn graph(
     }
 }
 
-/// The plant of these blocks and connections, whose buffers hold so many items where that is enough. What is refused ends the test.
+/// The plant of these blocks and connections, whose buffers hold so many items where that is enough. What is refused
+/// ends the test.
 pub fn plant(
     rt: &impl Abort,
     alloc: Global,

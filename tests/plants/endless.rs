@@ -1,5 +1,5 @@
-//! A stream that goes on for long, with tags, through a plant that streams: however much comes, the process has no more memory than at first. No clause says so of
-//! the room of tags in order, nor of that of items once they are appended.
+//! A stream that goes on for long, with tags, through a plant that streams: however much comes, the process has no more
+//! memory than at first. No clause says so of the room of tags in order, nor of that of items once they are appended.
 use super::drawn::{MIDDLE, Make, SINK, SOURCE, bytes, mark, streaming};
 use crate::Host;
 use items::{Items, Mark};

@@ -177,7 +177,8 @@ fn marks_are_not_read_before_an_item_is_whole(rt: HostRuntime) -> Result<(), Fai
 #[test]
 fn a_source_that_has_items_left_is_not_read(rt: HostRuntime) -> Result<(), Fail> {
     let alloc = rt.alloc();
-    // The second source is open and has no reader, so a buffer of the first fills, and its tape keeps most of the piece.
+    // The second source is open and has no reader, so a buffer of the first fills, and its tape keeps most of the
+    // piece.
     let blocks = [Make::Source, Make::Source, Make::Add, Make::Sink];
     let mut run = opened(&rt, alloc, &blocks, &[(0, 0, 2, 0), (1, 0, 2, 1), (2, 0, 3, 0)], 64);
     let piece = [7; 1_000];
@@ -191,7 +192,8 @@ fn a_source_that_has_items_left_is_not_read(rt: HostRuntime) -> Result<(), Fail>
 #[test]
 fn a_source_that_a_sink_waits_for_is_read_first(rt: HostRuntime) -> Result<(), Fail> {
     let alloc = rt.alloc();
-    // Each sink has a source of its own, and is asked for in turn; the last source, of which no sink takes more, is read behind them.
+    // Each sink has a source of its own, and is asked for in turn; the last source, of which no sink takes more, is
+    // read behind them.
     let blocks = [Make::Source, Make::Source, Make::Sink, Make::Sink];
     let mut run = opened(&rt, alloc, &blocks, &[(0, 0, 2, 0), (1, 0, 3, 0)], 64);
     for source in [BlockId(0), BlockId(1)] {

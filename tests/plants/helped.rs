@@ -1,5 +1,5 @@
-//! Plants that stream, with helpers of any kind: those that bring work late and in another order, lose some, and bring what nobody asked for. Whatever they do, what
-//! is written is what the whole run of a plant gives.
+//! Plants that stream, with helpers of any kind: those that bring work late and in another order, lose some, and bring
+//! what nobody asked for. Whatever they do, what is written is what the whole run of a plant gives.
 use super::drawn::{Make, Wire, bytes, plant, streaming};
 use super::orders::drawn;
 use super::pipelines::{given, joined, texts, whole};

@@ -1,6 +1,6 @@
-//! Tests of plants through their public calls: each call once, jobs that are copied and brought back, what blocks wait for and what
-//! buffers store, long runs in any order, balanced graphs that never stall, plants that stream, alone and with helpers, for long, and pipelines; slices on threads; and calls that have
-//! memory enough.
+//! Tests of plants through their public calls: each call once, jobs that are copied and brought back, what blocks wait
+//! for and what buffers store, long runs in any order, balanced graphs that never stall, plants that stream, alone and
+//! with helpers, for long, and pipelines; slices on threads; and calls that have memory enough.
 
 mod ample;
 mod asked;

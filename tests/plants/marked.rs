@@ -1,4 +1,5 @@
-//! Pipelines whose sources have marks: lines in pieces of any lengths beside one feed, each failing read, and each refusal.
+//! Pipelines whose sources have marks: lines in pieces of any lengths beside one feed, each failing read, and each
+//! refusal.
 use super::drawn::{Make, streaming};
 use super::pipelines::{Pieces, Run, Whole, given, texts, told, whole, written};
 use super::streamed::{BLOCKS, SINKS, WIRES};
@@ -11,7 +12,8 @@ use std::test::Fail;
 
 const SOURCE: BlockId = BlockId(0);
 
-// The lines of marks, as a person may write them: with zeros in front, with a source that is passed over, and without a line feed at the end.
+// The lines of marks, as a person may write them: with zeros in front, with a source that is passed over, and without a
+// line feed at the end.
 fn lines_of(rt: &impl Abort, alloc: Global, marks: &[Mark], style: u64) -> Result<Vec<u8>, Fail> {
     let mut lines = Vec::new(alloc);
     for (n, mark) in marks.iter().enumerate() {
@@ -208,8 +210,8 @@ fn marks_are_read_no_further_than_the_items(rt: HostRuntime) -> Result<(), Fail>
     Ok(())
 }
 
-// The items `source` from item 10 of a whole tape on, with the marks of the tape; and each item three times, from item 30 of a whole stream on, of which the first
-// six are left out.
+// The items `source` from item 10 of a whole tape on, with the marks of the tape; and each item three times, from item
+// 30 of a whole stream on, of which the first six are left out.
 fn part_run(rt: &impl Abort, alloc: Global, marks: &[u8], goes_on: bool, most: u64) -> Result<Run, Fail> {
     let blocks = [Make::Source, Make::Repeat(3), Make::Sink];
     let plant = streaming(rt, alloc, &blocks, &[(0, 0, 1, 0), (1, 0, 2, 0)], 64);

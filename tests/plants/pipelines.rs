@@ -1,4 +1,5 @@
-//! Pipelines: pieces of any lengths beside the whole run of a plant, each failing read and write, and what is read of several inputs.
+//! Pipelines: pieces of any lengths beside the whole run of a plant, each failing read and write, and what is read of
+//! several inputs.
 use super::drawn::{Make, bytes, mark, plant, streaming};
 use super::orders::drawn;
 use super::streamed::{BLOCKS, SINKS, WIRES};

@@ -27,7 +27,8 @@ impl Read for Bytes {
     }
 }
 
-// Which sources are silent, and which of them are woken by the next wait; and what was asked: the sources that were not ready, with a wait as 99, and those that were.
+// Which sources are silent, and which of them are woken by the next wait; and what was asked: the sources that were not
+// ready, with a wait as 99, and those that were.
 #[derive(Drop)]
 struct Asked {
     silent: [bool; 4],

@@ -1,4 +1,5 @@
-//! Slices on threads, over pieces of any lengths, with marks and tags, beside the whole run; and what is left where an outlet, a reader or a line of marks fails.
+//! Slices on threads, over pieces of any lengths, with marks and tags, beside the whole run; and what is left where an
+//! outlet, a reader or a line of marks fails.
 use super::drawn::streaming;
 use super::streamed::{BLOCKS, SINKS, WIRES};
 use crate::Host;
@@ -162,7 +163,8 @@ struct Fed {
     fails: bool,
 }
 
-// So many items, with a mark on each third and one more on each twelfth. Behind the mark on item `wrong` stands a line that is none.
+// So many items, with a mark on each third and one more on each twelfth. Behind the mark on item `wrong` stands a line
+// that is none.
 fn fed(alloc: Global, length: usize, wrong: Option<usize>) -> Result<Fed, Fail> {
     let mut tape = Vec::with_capacity(alloc, length)?;
     let mut marks = Vec::new(alloc);
@@ -271,7 +273,8 @@ fn job(alloc: Global, plan: &Plan) -> Result<Job, AllocError> {
     })
 }
 
-// On how many threads slices are run, over pieces of how many iterations at most, where so many bytes come at once, and whether a read may wait.
+// On how many threads slices are run, over pieces of how many iterations at most, where so many bytes come at once, and
+// whether a read may wait.
 #[derive(Clone, Copy, Debug)]
 struct Way {
     threads: usize,
@@ -300,7 +303,8 @@ fn tapes(alloc: Global, fed: &Fed, way: Way, plan: &Plan) -> Result<Tapes<Crumbs
     })
 }
 
-// Runs slices, and the rest behind them. It returns what was taken, and why the rest failed, if it did; or why the outlet did.
+// Runs slices, and the rest behind them. It returns what was taken, and why the rest failed, if it did; or why the
+// outlet did.
 fn in_slices<R: Host>(
     rt: R,
     fed: &Fed,

@@ -1,4 +1,5 @@
-//! Tests of scripts and calls over streams that fail or come in pieces, and of the texts that they are made of: what no contract says.
+//! Tests of scripts and calls over streams that fail or come in pieces, and of the texts that they are made of: what no
+//! contract says.
 
 mod ends;
 mod fakes;

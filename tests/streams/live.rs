@@ -150,8 +150,8 @@ fn calls_come_in_pieces(rt: HostRuntime) -> Result<(), Fail> {
     Ok(())
 }
 
-// After a fault no sink is shown, whatever the reply that it stands behind. (The fault has to stop the run: one that comes to rest of itself, since its source is open,
-// is told as 62.)
+// After a fault no sink is shown, whatever the reply that it stands behind. (The fault has to stop the run: one that
+// comes to rest of itself, since its source is open, is told as 62.)
 #[test]
 fn a_live_run_ends_where_its_streams_fail(rt: HostRuntime) -> Result<(), Fail> {
     let alloc = rt.alloc();
@@ -251,7 +251,8 @@ impl Watch for Given {
     fn end(&mut self) {}
 }
 
-// What nobody waits for any more is not computed: behind a fault the run is stopped, long before its sources have given all.
+// What nobody waits for any more is not computed: behind a fault the run is stopped, long before its sources have given
+// all.
 #[test]
 fn a_live_run_is_stopped_behind_a_fault(rt: HostRuntime) -> Result<(), Fail> {
     let alloc = rt.alloc();

@@ -1,5 +1,5 @@
-//! Tests of the line that tells on a terminal how far a run is, over a clock and a screen in memory, and of the words of the program: what no
-//! contract says.
+//! Tests of the line that tells on a terminal how far a run is, over a clock and a screen in memory, and of the words
+//! of the program: what no contract says.
 
 mod lines;
 mod runs;

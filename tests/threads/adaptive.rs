@@ -1,5 +1,5 @@
-//! Runs in as many threads as their work is worth, of what no contract says: that cheap work stays on one thread, that dear work is done side by
-//! side, that blocks change sides, and that a stop is seen.
+//! Runs in as many threads as their work is worth, of what no contract says: that cheap work stays on one thread, that
+//! dear work is done side by side, that blocks change sides, and that a stop is seen.
 use super::drawn::{Drawing, Make, SINK, TURNED, TWO_TURNED, fed, feed, kind, opened};
 use super::gates::Counts;
 use super::helpers::alone;

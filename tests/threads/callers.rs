@@ -1,5 +1,5 @@
-//! Callers on threads of their own, who ask a pipeline while it runs: each has its own answers, in their order, and what is written is that of a plant that was handed the
-//! same at the same items.
+//! Callers on threads of their own, who ask a pipeline while it runs: each has its own answers, in their order, and
+//! what is written is that of a plant that was handed the same at the same items.
 use super::runs::Host;
 use flowgraph::{BlockId, Graph, Options, Policy};
 use items::{ItemType, Items};

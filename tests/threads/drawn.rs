@@ -141,7 +141,8 @@ pub fn kind(rt: &impl Abort, make: Make) -> Kind {
     }
 }
 
-/// The graph of these blocks and connections, whose buffers hold so many items where that is enough. What is refused ends the test.
+/// The graph of these blocks and connections, whose buffers hold so many items where that is enough. What is refused
+/// ends the test.
 pub fn joined<B: Block>(
     rt: &impl Abort,
     alloc: Global,
@@ -219,7 +220,8 @@ pub fn fed(rt: &impl Abort, alloc: Global, drawing: &Drawing<'_>) -> Plant<Kind>
     plant
 }
 
-/// Feeds a source with so many items: the first is 1, and each has the next number, or 0 behind 250. Each seventh has a tag.
+/// Feeds a source with so many items: the first is 1, and each has the next number, or 0 behind 250. Each seventh has a
+/// tag.
 pub fn feed<B: Block>(
     rt: &impl Abort,
     alloc: Global,

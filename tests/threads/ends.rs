@@ -30,7 +30,8 @@ fn a_join_of_unequal_rates_stalls(rt: HostRuntime) -> Result<(), Fail> {
         let (end, plant) = ran_by(rt, alloc, way, fed(&rt, alloc, &THINNED), Turns::default());
         assert!(rt; end == End::Stalled, "{way:?}, run {number}: {end:?}");
         let piece = piece(&rt, alloc, &plant, BlockId(3));
-        // 1 + 2, 2 + 4, 3 + 6. The fourth sum wants item 8, and 7 of the buffer's items are the most that are given: 3 are taken, and 4 fit.
+        // 1 + 2, 2 + 4, 3 + 6. The fourth sum wants item 8, and 7 of the buffer's items are the most that are given: 3
+        // are taken, and 4 fit.
         assert!(rt; piece.held == 3 && !piece.done, "run {number}: three sums");
         for (n, sum) in [3, 6, 9].iter().enumerate() {
             assert!(rt; piece.items.number(n) == *sum, "run {number}: sum {n}");

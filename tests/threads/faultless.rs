@@ -1,4 +1,5 @@
-//! Runs with ample memory and threads: none fails or is told as stopped, and each tells its gate of turns, whatever the graph, the call and the length of turns.
+//! Runs with ample memory and threads: none fails or is told as stopped, and each tells its gate of turns, whatever the
+//! graph, the call and the length of turns.
 use super::drawn::fed;
 use super::gates::Counts;
 use super::live_runs::{Answered, Does, Part, Seat, doing};

@@ -1,4 +1,5 @@
-//! What the threads of the tests wait at, each for a bounded time: flags, levels, and gates, of which one counts and one holds blocks.
+//! What the threads of the tests wait at, each for a bounded time: flags, levels, and gates, of which one counts and
+//! one holds blocks.
 use flowgraph::BlockId;
 use std::hint::spin_loop;
 use std::sync::atomic::{AtomicBool, AtomicU64, Ordering};
@@ -89,7 +90,8 @@ impl Level {
     }
 }
 
-/// The gate that counts how often a worker was found asleep that could act, how often it was passed, and the firings that it was told of.
+/// The gate that counts how often a worker was found asleep that could act, how often it was passed, and the firings
+/// that it was told of.
 #[derive(Drop)]
 pub struct Counts {
     missed: AtomicU64,

@@ -1,5 +1,5 @@
-//! Plants that stream, with threads that help: graphs drawn by chance beside the whole run of a plant, work that takes no time, which stays with the caller, and dear
-//! work, which does not.
+//! Plants that stream, with threads that help: graphs drawn by chance beside the whole run of a plant, work that takes
+//! no time, which stays with the caller, and dear work, which does not.
 use super::drawn::{Drawing, Make, TURNED, graph, tape};
 use super::random::drawn_graph;
 use super::runs::{piece, settled};

@@ -29,8 +29,8 @@ const ORDERS: [[u32; 16]; 2] = [
     [7, 0, 14, 3, 9, 15, 1, 12, 5, 10, 2, 8, 13, 4, 11, 6],
 ];
 
-// A caller that waits until so many others have made their calls as its place says, and then reads once more often than its number says, each time
-// at most so many items as its number.
+// A caller that waits until so many others have made their calls as its place says, and then reads once more often than
+// its number says, each time at most so many items as its number.
 #[derive(Drop)]
 struct Numbered {
     number: u32,
@@ -133,7 +133,8 @@ fn callers_keep_their_order_however_they_leave(rt: HostRuntime) -> Result<(), Fa
     Ok(())
 }
 
-// A caller that feeds the first items, and stops the run; or one that goes on behind it: it feeds the others and closes.
+// A caller that feeds the first items, and stops the run; or one that goes on behind it: it feeds the others and
+// closes.
 #[derive(Drop)]
 struct Stops {
     goes_on: bool,

@@ -119,7 +119,8 @@ impl Gate for SecondTurn {
     }
 }
 
-// As a run begins, the source has all its items, and nothing lies in its buffer. So its first turn is as long as the turns may be, but for half of the buffer.
+// As a run begins, the source has all its items, and nothing lies in its buffer. So its first turn is as long as the
+// turns may be, but for half of the buffer.
 const FIRST_TURNS: [(u32, u64); 4] = [(1, 1), (7, 7), (1_024, 1_024), (65_536, 2_048)];
 
 #[test]

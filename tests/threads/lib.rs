@@ -1,5 +1,5 @@
-//! Tests of runs in threads, of what no contract says: that workers overlap, that no wake-up is lost, that a stop is seen, and that each run ends.
-//! Each waits for a bounded time at most.
+//! Tests of runs in threads, of what no contract says: that workers overlap, that no wake-up is lost, that a stop is
+//! seen, and that each run ends. Each waits for a bounded time at most.
 
 mod adaptive;
 mod callers;

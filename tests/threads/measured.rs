@@ -1,4 +1,5 @@
-//! What a gate is told of turns and waits, and a watch of steps: as many firings as the plant makes, in each way of running it.
+//! What a gate is told of turns and waits, and a watch of steps: as many firings as the plant makes, in each way of
+//! running it.
 use super::drawn::{Drawing, Make, fed};
 use super::gates::Counts;
 use super::runs::{End, Host, ended, piece, share, shared, split};

@@ -1,4 +1,5 @@
-//! A block of the tests' own: a block of any kind that may look whether another works at the same time, or be equal to none.
+//! A block of the tests' own: a block of any kind that may look whether another works at the same time, or be equal to
+//! none.
 ghost use Rattle.kinds.specs.Kind.{meaning_of};
 
 use super::gates::Flag;

@@ -141,7 +141,8 @@ fn add_block(
     Ok(())
 }
 
-/// One to three sources, one to so many blocks behind them, and a sink at each output that nobody else reads, and now and then at others.
+/// One to three sources, one to so many blocks behind them, and a sink at each output that nobody else reads, and now
+/// and then at others.
 pub fn drawn_graph(alloc: Global, seed: u64, most: u64) -> Result<Graph, AllocError> {
     let mut chance = Chance::new(seed);
     let mut graph = Graph {

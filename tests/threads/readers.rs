@@ -1,4 +1,5 @@
-//! Threads that read ahead: what they read comes whole and in its order, with its failures, and one that has something is found while others are silent.
+//! Threads that read ahead: what they read comes whole and in its order, with its failures, and one that has something
+//! is found while others are silent.
 use super::runs::{Host, share};
 use flowgraph::BlockId;
 use pipeline::Readiness;
@@ -9,7 +10,8 @@ use std::io;
 use std::sync::{Arc, Condvar, Mutex, Wait};
 use std::test::Fail;
 
-// Gives 1, 2, 3 and so on, in pieces of one byte more each time, fails at its fourth read, and ends behind so many reads.
+// Gives 1, 2, 3 and so on, in pieces of one byte more each time, fails at its fourth read, and ends behind so many
+// reads.
 #[derive(Drop)]
 struct Counting {
     reads: usize,

@@ -9,7 +9,8 @@ use std::process::Abort;
 use std::sync::Arc;
 use threads::{Answer, Call, CallerId, Entry};
 
-/// Makes the calls of a history of a plant of its own, call by call: each is answered as it was, and the plant ends as the other did.
+/// Makes the calls of a history of a plant of its own, call by call: each is answered as it was, and the plant ends as
+/// the other did.
 pub fn replay(
     rt: &impl Abort,
     alloc: Global,
@@ -54,7 +55,8 @@ fn is_of_its_caller(entry: &Entry) -> bool {
     }
 }
 
-// What a plant answers to a call. It is none for what is never noted: that a block waits, or is busy, or that work comes back.
+// What a plant answers to a call. It is none for what is never noted: that a block waits, or is busy, or that work
+// comes back.
 fn answer_of(
     alloc: Global,
     own: &mut Plant<Kind>,

@@ -1,4 +1,5 @@
-//! Callers that feed, close, set and read by chance, of graphs that are drawn by chance. Each history is played again, and settled on one thread.
+//! Callers that feed, close, set and read by chance, of graphs that are drawn by chance. Each history is played again,
+//! and settled on one thread.
 use super::drawn::{Drawing, Make, plant};
 use super::gates::Counts;
 use super::live_runs::{finished_with, LIVE_WAYS, LiveWay};
@@ -22,7 +23,8 @@ const RUNS: u64 = 60;
 // Between its sources and its sinks a graph has no more blocks.
 const MOST_BLOCKS: u64 = 3;
 
-// The graph of a seed, in which blocks that would turn bits have a setting, and so has each other with one input and one output by chance.
+// The graph of a seed, in which blocks that would turn bits have a setting, and so has each other with one input and
+// one output by chance.
 fn graph_of(alloc: Global, seed: u64) -> Result<Graph, AllocError> {
     let mut graph = drawn_graph(alloc, seed, MOST_BLOCKS)?;
     let mut chance = Chance::new(seed + 2_000);

@@ -35,7 +35,8 @@ const MOST_YIELDS: u32 = 10_000;
 
 const NOT: BlockId = BlockId(1);
 
-// The first of the firings that a sink may claim, and how many they are: so many items have come to it. The claim is given up again.
+// The first of the firings that a sink may claim, and how many they are: so many items have come to it. The claim is
+// given up again.
 fn claimable(rt: &impl Abort, alloc: Global, plant: &mut Plant<Kind>, sink: BlockId) -> (u64, u32) {
     match plant.claim(alloc, sink, ITEMS) {
         Ok(Claim::Claimed(job)) => {
@@ -77,7 +78,8 @@ fn stopped_while_held<R: Host + 'static>(
 fn a_stop_lets_the_work_in_hand_be_committed(rt: HostRuntime) -> Result<(), Fail> {
     let alloc = rt.alloc();
     let mut plant = stopped_while_held(rt, alloc, &CHAIN, &[NOT.0], 1);
-    // What was in hand is on its output, and the sink claims no more. The source gave that, and no more than its buffer holds while it is in hand.
+    // What was in hand is on its output, and the sink claims no more. The source gave that, and no more than its buffer
+    // holds while it is in hand.
     assert!(rt;
         piece(&rt, alloc, &plant, SINK).held == 0,
         "nothing was taken"

@@ -175,7 +175,8 @@ fn one_caller(rt: &impl Abort, alloc: Global) -> Result<Vec<Does<Sets>>, AllocEr
     Ok(doing(rt, alloc, vec![in alloc; Sets { wrong: 0 }]?))
 }
 
-// The caller was answered as by a plant, its calls stand in its log and in the history, and the sink has what came of them.
+// The caller was answered as by a plant, its calls stand in its log and in the history, and the sink has what came of
+// them.
 fn is_answered<R: Host>(rt: &R, alloc: Global, ran: Finished<Kind, Does<Sets>>) {
     assert!(rt; ran.callers.len() == 1 && ran.logs.len() == 1, "one caller");
     assert!(rt;

@@ -32,7 +32,8 @@ const FAN: Drawing<'static> = Drawing {
     ..CHAIN
 };
 
-// Each graph runs many times in each way with buffers of 1 to 4 items. The sinks show what they show after it has settled on one thread.
+// Each graph runs many times in each way with buffers of 1 to 4 items. The sinks show what they show after it has
+// settled on one thread.
 fn same_as_settled<R: Host + 'static>(rt: R, alloc: Global, drawing: Drawing<'_>) {
     for capacity in 1..=4 {
         let drawing = Drawing {
@@ -59,7 +60,8 @@ fn chains_and_fans_with_the_smallest_buffers(rt: HostRuntime) -> Result<(), Fail
 
 #[test]
 fn a_head_ends_behind_a_source_that_goes_on(rt: HostRuntime) -> Result<(), Fail> {
-    // The source goes through a decimator, so that the head waits often; it ends after 5 items, and all before it ends then too.
+    // The source goes through a decimator, so that the head waits often; it ends after 5 items, and all before it ends
+    // then too.
     let slow = Drawing {
         makes: &[Source, Keep(7), Head(5), Repeat(3), Sink],
         ..CHAIN

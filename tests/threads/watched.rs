@@ -1,4 +1,5 @@
-//! What a watch is shown of a run in as many threads as its work is worth, on one thread and in a pool: the count never falls, and the end is told once.
+//! What a watch is shown of a run in as many threads as its work is worth, on one thread and in a pool: the count never
+//! falls, and the end is told once.
 use super::adaptive::{CHAIN, dear_chains};
 use super::drawn::fed;
 use super::gates::Counts;

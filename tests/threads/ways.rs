@@ -21,7 +21,8 @@ pub enum Way {
     EachBlock,
     /// As many threads as the work is worth.
     Adaptive,
-    /// The same by a clock that makes a block seem dear now and then, so that a pool of threads runs the plant, and blocks go in and out of the lock.
+    /// The same by a clock that makes a block seem dear now and then, so that a pool of threads runs the plant, and
+    /// blocks go in and out of the lock.
     Erratic,
     /// The same from the start in a pool.
     ErraticPool,

@@ -1,4 +1,5 @@
-//! The kinds that divide, slice, encode, choose of frames, hold items, repeat a list and count: their rows, and each as a plain loop over slices.
+//! The kinds that divide, slice, encode, choose of frames, hold items, repeat a list and count: their rows, and each as
+//! a plain loop over slices.
 
 use crate::kind_contest::{PlainLoop, print_kind};
 use crate::kind_table::{EACH, calls, row};

@@ -1,4 +1,5 @@
-//! The kinds that check and code: their rows, and each as a plain loop, which divides bit by bit where frames are checked.
+//! The kinds that check and code: their rows, and each as a plain loop, which divides bit by bit where frames are
+//! checked.
 
 use crate::kind_contest::{PlainLoop, print_kind};
 use crate::kind_table::{EACH, calls, row};

@@ -1,4 +1,5 @@
-//! A contest of a kind of block and its plain loop: how many items a second go through the block's `work`, called as a plant calls it.
+//! A contest of a kind of block and its plain loop: how many items a second go through the block's `work`, called as a
+//! plant calls it.
 ghost use Rattle.std.specs.Prelude.{◌≡◌, ◌+◌, ◌^◌, ◌<◌, ◌≤◌, ℕ, [], length, map, All, IfOk, OnOk, IsTrue};
 ghost use Rattle.stream_model.specs.Lists.{window};
 ghost use Rattle.stream_model.specs.Meaning.{input};

@@ -1,4 +1,5 @@
-//! The kinds that keep some items of each frame, put a list into each, or give each another order: their rows, and each as a plain loop over slices.
+//! The kinds that keep some items of each frame, put a list into each, or give each another order: their rows, and each
+//! as a plain loop over slices.
 ghost use Rattle.std.specs.Prelude.{◌≡◌};
 
 use crate::contest::Row;

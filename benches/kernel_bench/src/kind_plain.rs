@@ -1,4 +1,5 @@
-//! Each kind of block as a plain loop over slices: the measuring stick. Where a block reads the past, the input begins with it.
+//! Each kind of block as a plain loop over slices: the measuring stick. Where a block reads the past, the input begins
+//! with it.
 
 use crate::bit_streams::{correlate, recut, recut_turned};
 use crate::item::Item;

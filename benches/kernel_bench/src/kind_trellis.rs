@@ -7,7 +7,8 @@ use code_blocks::{Trellis, Viterbi};
 use items::ItemType::Byte;
 use std::io;
 
-// The code of the polynomials 171 and 133, whose state is the last six bits, the newest the highest, in blocks of 256 bits that begin in state 0.
+// The code of the polynomials 171 and 133, whose state is the last six bits, the newest the highest, in blocks of 256
+// bits that begin in state 0.
 const STATES: usize = 64;
 
 const STEPS: usize = 256;

@@ -41,7 +41,8 @@ fn print_head(rt: &HostRuntime) -> io::Result<()> {
     println!(rt; "kernel             type             length    M items/s   plain loop   ratio")
 }
 
-// Slices of 16 and of 64 items, those of 4 KiB, which stand in the first cache, and of 256 KiB, which stand in the second, and filters.
+// Slices of 16 and of 64 items, those of 4 KiB, which stand in the first cache, and of 256 KiB, which stand in the
+// second, and filters.
 fn print_rows(rt: &HostRuntime, part: &str) -> io::Result<()> {
     match part {
         "16" => print_slices(rt, 16, 16, 16),

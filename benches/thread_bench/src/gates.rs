@@ -1,4 +1,5 @@
-//! What a gate that measures costs a run in as many threads as the work is worth, where it is there and where it is not.
+//! What a gate that measures costs a run in as many threads as the work is worth, where it is there and where it is
+//! not.
 
 use crate::graphs::{Shape, fed_plant};
 use crate::races::{Host, run_span};

@@ -1,4 +1,5 @@
-//! The graphs that run: one or more chains of blocks that add 1 or filter, behind one source or behind one each, and a sink behind each chain.
+//! The graphs that run: one or more chains of blocks that add 1 or filter, behind one source or behind one each, and a
+//! sink behind each chain.
 
 use crate::feeds::{Fault, marks_of, tape_of};
 use crate::filters::TAPS;

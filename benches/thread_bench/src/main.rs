@@ -1,5 +1,5 @@
-//! The program `thread_bench`: times graphs that run with a thread for each block, and in as many as the work is worth, against the same on one thread, and against
-//! plain loops.
+//! The program `thread_bench`: times graphs that run with a thread for each block, and in as many as the work is worth,
+//! against the same on one thread, and against plain loops.
 #![tactic(auto)]
 
 mod feeds;

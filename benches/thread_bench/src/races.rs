@@ -1,5 +1,5 @@
-//! A graph that runs to its end with a thread for each block, on one thread, and in as many as the work is worth, and plain loops over slices that do the same
-//! work: how long each takes.
+//! A graph that runs to its end with a thread for each block, on one thread, and in as many as the work is worth, and
+//! plain loops over slices that do the same work: how long each takes.
 
 ghost use Rattle.std.specs.Prelude.{◌≤◌};
 
@@ -46,8 +46,9 @@ impl Span {
     }
 }
 
-/// How long a shape takes in plain loops, on one thread, with a thread for each block, in as many as the work is worth, and as a plant that streams, of one thread with
-/// helpers, how long a turn holds the lock in the mean, how long it takes in threads whose claims and commits are noted in a history, and how many entries that has.
+/// How long a shape takes in plain loops, on one thread, with a thread for each block, in as many as the work is worth,
+/// and as a plant that streams, of one thread with helpers, how long a turn holds the lock in the mean, how long it
+/// takes in threads whose claims and commits are noted in a history, and how many entries that has.
 #[derive(Clone, Copy)]
 pub struct Times {
     pub plain: u128,
@@ -140,7 +141,8 @@ pub fn run_span<G: Gate + Drop + Send + Sync + 'static, R: Host + 'static>(
     }
 }
 
-// How long a plant that streams takes, in rounds of one thread which helpers help, and the threads their start and their end.
+// How long a plant that streams takes, in rounds of one thread which helpers help, and the threads their start and
+// their end.
 fn helped_span<R: Host + 'static>(rt: R, alloc: Global, shape: Shape) -> io::Result<Span> {
     let mut plant = fed_stream(alloc, shape)?;
     let start = Instant::now(&rt)?;
@@ -208,7 +210,8 @@ struct Held {
     turns: u128,
 }
 
-// How long a turn holds the lock in the mean: its claim and its commit are timed apart from the work, by turns on one thread.
+// How long a turn holds the lock in the mean: its claim and its commit are timed apart from the work, by turns on one
+// thread.
 fn hold_time<R: Host>(rt: &R, alloc: Global, shape: Shape) -> io::Result<u128> {
     let mut plant = fed_plant(alloc, shape)?.plant;
     let half = shape.capacity / 2 / shape.multiple.max(1);

@@ -48,7 +48,8 @@ export function shortened(number) {
     return String(Number(number.toPrecision(4)));
 }
 
-/** The axes, with the numbers at them: whole ones alone where `wholeX` or `wholeY` says so, and none at the left with `noY`. */
+/** The axes, with the numbers at them: whole ones alone where `wholeX` or `wholeY` says so, and none at the left with
+ * `noY`. */
 export function drawAxes(area, [low, high], [least, greatest], labels = {}) {
     const { context, colour } = area;
     const x = scale(low, high, area.left, area.right), y = scale(least, greatest, area.bottom, area.top);

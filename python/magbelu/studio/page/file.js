@@ -127,7 +127,8 @@ export class FilePane {
         this.tell();
     }
 
-    /** Takes a graph file, or a drawing of Companion, that is dropped on the page, or raw items for the source on which they are dropped. */
+    /** Takes a graph file, or a drawing of Companion, that is dropped on the page, or raw items for the source on which
+     * they are dropped. */
     async drop(event) {
         event.preventDefault();
         const file = event.dataTransfer?.files[0];

@@ -33,7 +33,8 @@ export const powerBelow = (number) => 2 ** Math.floor(Math.log2(Math.max(number,
 
 const decibels = (power) => 10 * Math.log10(Math.max(power, 1e-12));
 
-/** The spectrum of the last items, in decibels, of which 0 is a sine with the amplitude `full`: from frequency 0 to half a cycle an item. */
+/** The spectrum of the last items, in decibels, of which 0 is a sine with the amplitude `full`: from frequency 0 to
+ * half a cycle an item. */
 export function spectrumOf(items, full) {
     const count = powerBelow(items.length);
     const last = items.subarray(items.length - count);

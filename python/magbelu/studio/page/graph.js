@@ -18,7 +18,8 @@ function linesOf(block) {
 }
 
 export class GraphView {
-    /** `chosen` is called with the name of a block that is chosen, and `joined` with a connection that is drawn from one port to another block. */
+    /** `chosen` is called with the name of a block that is chosen, and `joined` with a connection that is drawn from
+     * one port to another block. */
     constructor(at, chosen, joined) {
         Object.assign(this, { at, chosen, joined, zoom: 1, blocks: new Map() });
         at.addEventListener("pointerdown", (event) => this.drag(event));

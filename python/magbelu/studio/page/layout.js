@@ -1,4 +1,5 @@
-// Where the blocks of a graph stand: in columns, each right of those that it reads from, and in a column near these. A line that passes over columns has a gap in each.
+// Where the blocks of a graph stand: in columns, each right of those that it reads from, and in a column near these. A
+// line that passes over columns has a gap in each.
 
 const GAP_X = 90, GAP_Y = 26, PORT = 16, LINE = 15, LETTER = 7.3, MARGIN = 16, SWEEPS = 8, GAP = 8, MOST_GAPS = 4000;
 
@@ -27,7 +28,8 @@ function boxOf(block, connects) {
     return { block, inputs, outputs, width: Math.max(64, letters * LETTER + 20), height, space: GAP_Y, near: [], x: 0, y: 0 };
 }
 
-/** The boxes that a line passes on its way, first and last those of its blocks; in the columns between there are gaps. */
+/** The boxes that a line passes on its way, first and last those of its blocks; in the columns between there are
+ * gaps. */
 function wayOf(connect, boxes, column, columns, isShort) {
     const first = column.get(connect.from), last = column.get(connect.to);
     const way = [boxes.get(connect.from)];
@@ -41,7 +43,8 @@ function wayOf(connect, boxes, column, columns, isShort) {
     return way;
 }
 
-/** Puts the boxes of each column in the order of the middles of their neighbours, and spreads them so that none overlap. */
+/** Puts the boxes of each column in the order of the middles of their neighbours, and spreads them so that none
+ * overlap. */
 function settle(columns) {
     const middle = (it) => it.y + it.height / 2;
     for (let sweep = 0; sweep < SWEEPS; sweep++) {

@@ -10,7 +10,8 @@ function unpacked(data) {
 }
 
 export class Link {
-    /** `told` has a function for each part of a message, `frame` for a frame, and `open` and `closed` for what becomes of the link. */
+    /** `told` has a function for each part of a message, `frame` for a frame, and `open` and `closed` for what becomes
+     * of the link. */
     constructor(told) {
         this.told = told;
         this.asked = new Map();

@@ -12,7 +12,8 @@ const KINDS = { levels, bits, spectrum, waterfall, scatter, numbers };
 const FIRST_SPAN = 4096, LEAST_SPAN = 8, MOST_SPAN = 2 ** 22, NEAR = 5, LONGEST_REST = 500;
 
 export class Plot {
-    /** A plot of a sink, whose items have a type, or of it and one of the `others`. `more` is called for another plot of the same sink, where it may be closed too. */
+    /** A plot of a sink, whose items have a type, or of it and one of the `others`. `more` is called for another plot
+     * of the same sink, where it may be closed too. */
     constructor(link, name, { sink, type, others }, kind = "levels", more = null) {
         Object.assign(this, { link, name, sink, type, others, more, other: others[0], span: FIRST_SPAN, start: null, key: null, frame: null });
         this.kind = KINDS[kind];

@@ -18,7 +18,8 @@ export function rateOf(name, run, rates) {
 /** The share of a block in the work of all, where it was measured. */
 export const shareOf = (name, run) => run.works.blocks[name]?.share ?? null;
 
-/** Which blocks limit a run, and how that is said: the one that works most, or the inputs, where the run waits for these. */
+/** Which blocks limit a run, and how that is said: the one that works most, or the inputs, where the run waits for
+ * these. */
 export function limitOf(run) {
     const fed = Object.keys(run.fed);
     if (run.state === "running" && fed.length && run.waits > MOST_WAIT) return { names: fed, says: run.rate ? "the pace limits the run" : "its input limits the run" };

@@ -1,6 +1,7 @@
-// The search, in the place of that of mkdocs, whose search/main.js hands on what is asked. A word counts more in a title than in a text, and less in the reference, which
-// is asked for names that nothing else has. Signs part words: so `--jobs` asks for jobs, and `set taps` finds `magbelu_set_taps`. It is a worker of search/main.js, or
-// where files.js says so a script beside it.
+// The search, in the place of that of mkdocs, whose search/main.js hands on what is asked. A word counts more in a
+// title than in a text, and less in the reference, which is asked for names that nothing else has. Signs part words: so
+// `--jobs` asks for jobs, and `set taps` finds `magbelu_set_taps`. It is a worker of search/main.js, or where files.js
+// says so a script beside it.
 const TITLE_BOOST = 3;
 const REFERENCE_BOOST = 0.5;
 const MOST_RESULTS = 30;
