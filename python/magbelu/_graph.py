@@ -42,9 +42,8 @@ class Graph(Held):
         ([11, 12], [Tag(offset=1, key='burst', value=7, source=0)])
         """
         name = lent_name(bytes_of(sink))
-        first, most = count_of(start, "the start of a read", MOST), MOST if count is None else count_of(
-            count, "a count of items", MOST
-        )
+        first = count_of(start, "the start of a read", MOST)
+        most = MOST if count is None else count_of(count, "a count of items", MOST)
         room, tags_room = 65536, 4096
         with self._lock:
             while True:
@@ -57,9 +56,8 @@ class Graph(Held):
                     break
                 room, tags_room = max(room, piece.bytes_len), max(tags_room, piece.tags_len)
         tested(piece, sink)
-        return array_of(piece.item_size, data.part(0, piece.bytes_len)), tags_of(
-            lines.part(0, piece.tags_len).decode().split()
-        )
+        tags = tags_of(lines.part(0, piece.tags_len).decode().split())
+        return array_of(piece.item_size, data.items(piece.bytes_len)), tags
 
     def plot(
         self,

@@ -45,7 +45,8 @@ class Tag(NamedTuple):
     source: int
 
 
-def array_of(item_size: int, data: bytes) -> Array:
+def array_of(item_size: int, data: bytearray) -> Array:
+    """Items as an array, which may be written as any other."""
     code = CODES[item_size]
     if numpy is not None:
         return numpy.frombuffer(data, dtype=code)

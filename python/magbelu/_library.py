@@ -263,3 +263,7 @@ class Room:
 
     def part(self, start: int, end: int) -> bytes:
         return self.map[start:end]
+
+    def items(self, end: int) -> bytearray:
+        """The bytes up to there, in memory of their own that may be written."""
+        return bytearray(memoryview(self.map)[:end])

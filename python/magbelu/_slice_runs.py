@@ -91,7 +91,7 @@ class Sheet:
             self.file.write(items)
 
     def items(self) -> Array:
-        return array_of(self.item_size, b"".join(self.kept))
+        return array_of(self.item_size, bytearray().join(self.kept))
 
 
 class Team(NamedTuple):

@@ -144,7 +144,7 @@ class Stream(Held):
                 if piece.bytes_len <= room:
                     break
                 room = piece.bytes_len
-        return array_of(piece.item_size, data.part(0, piece.bytes_len)), tags
+        return array_of(piece.item_size, data.items(piece.bytes_len)), tags
 
     def drain_into(self, sink: Text, room: Any) -> tuple[int, list[Tag]]:
         """Does the same with an array of the caller, which gets at most as many items as it has places: one of numpy or
@@ -185,9 +185,8 @@ class Stream(Held):
             if piece.bytes_len > size:
                 return piece, []
             if piece.tags_len <= lines.size:
-                self._drained_of[bytes_of(sink)] = (
-                    self._drained_of.get(bytes_of(sink), 0) + piece.bytes_len // piece.item_size
-                )
+                before = self._drained_of.get(bytes_of(sink), 0)
+                self._drained_of[bytes_of(sink)] = before + piece.bytes_len // piece.item_size
                 return piece, tags_of(lines.part(0, piece.tags_len).decode().split()) if piece.tags_len else []
             self._lines = Room(piece.tags_len)
 

@@ -159,6 +159,19 @@ class Telling(Noting):
         return _library.Reply(0, 0, 0, 3) if self.is_balanced else _library.Reply(0, 0, 1, 0)
 
 
+class Showing(Noting):
+    """The same of a graph whose sinks hold the shorts 1 and 2."""
+
+    def magbelu_bytes_read(self, plant, name, name_len, start, most, big_endian, data, *words):
+        ctypes.memmove(data, b"\1\0\2\0", 4)
+        return _library.Piece(0, 0, 2, 2, 4, 0)
+
+    def magbelu_bytes_drain(self, plant, name, name_len, most, big_endian, data, size, *words):
+        if size >= 4:
+            ctypes.memmove(data, b"\1\0\2\0", 4)
+        return _library.Piece(0, 0, 2, 2, 4, 0)
+
+
 library = Noting()
 _library._loaded = library
 graph = magbelu.Graph("")
@@ -542,6 +555,17 @@ def places_of_faults_are_read():
     _library._loaded = library
 
 
+def arrays_may_be_written():
+    """What is read and drained is the caller's own: a second read gives what the sink holds."""
+    _library._loaded = Showing()
+    graph, stream = magbelu.Graph(""), magbelu.Stream("")
+    for read in (lambda: graph.read("out")[0], lambda: stream.drain("out")[0]):
+        items = read()
+        items[0] = 7
+        assert items.tolist() == [7, 2] and read().tolist() == [1, 2]
+    _library._loaded = library
+
+
 tests = [
     items_are_integers,
     bytes_are_items,
@@ -558,6 +582,7 @@ tests = [
     copies_have_plants_of_their_own,
     what_is_told_of_blocks_is_read,
     places_of_faults_are_read,
+    arrays_may_be_written,
     *(
         [arrays_are_read]
         if numpy is None
