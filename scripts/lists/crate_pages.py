@@ -17,7 +17,7 @@ KEY, KEY_SPEC = "crates/kind_schema/src/key.rt", "crates/kind_schema/specs/Keys.
 KEYS, KEYS_SPEC = "crates/kind_schema/src/keys.rt", "crates/kind_schema/specs/Kinds.antt"
 RANGE, RANGE_SPEC = "crates/kind_schema/src/range.rt", "crates/kind_schema/specs/Ranges.antt"
 ABOUT, EXPECTED = "crates/diagnostics/src/about.rt", "crates/diagnostics/src/expected.rt"
-GNU_RADIO = "crates/diagnostics/src/gnu_radio.rt"
+GNU_RADIO, STARTING = "crates/diagnostics/src/gnu_radio.rt", "crates/diagnostics/src/starting.rt"
 FILES = "docs/user/FILES.md"
 # Ranges that a parameter of a kind has with numbers of its own.
 _WITH_NUMBERS = ("Number", "Long", "Register", "AtLeast")
@@ -31,6 +31,7 @@ def listings(tree: Tree, table: KindTable) -> Iterator[Listing]:
     yield from _pages(tree, table)
     yield from _options(tree, table)
     yield from _gnu_radio(tree, table)
+    yield from _starting(tree, table)
 
 
 def _parameters(tree: Tree, table: KindTable) -> Iterator[Listing]:
@@ -157,6 +158,17 @@ def _gnu_radio(tree: Tree, table: KindTable) -> Iterator[Listing]:
     found = re.findall(r'\(\s*b"(\w+)",\s*Key::Parameter\(Parameter::(\w+)\),\s*"([^"]*)",?\s*\)', text)
     shown = [(f"{there} for {variant}", differs.removeprefix(", ")) for there, variant, differs in found]
     yield Listing(GNU_RADIO, "`KEYS`", FILE, shown, list(dict(_called(table)).items()), in_order=False)
+
+
+def _starting(tree: Tree, table: KindTable) -> Iterator[Listing]:
+    """What `flow new` has to know of kinds to put them into a chain."""
+    for function, wanted in (
+        ("is_link", [it.type for it in table.kinds if it.end]),
+        ("gives_bytes", [it.type for it in table.kinds if it.gives == "byte"]),
+        ("has_two_inputs", [it.type for it in table.kinds if it.inputs == 2]),
+    ):
+        found = re.findall(r"KindName::(\w+)", body(tree.text(STARTING), function))
+        yield Listing(STARTING, f"`{function}`", FILE, named(found), named(wanted), in_order=False)
 
 
 def _called(table: KindTable) -> Iterator[Tuple[str, str]]:

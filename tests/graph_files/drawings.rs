@@ -141,7 +141,8 @@ const UNEVEN_DOT: &str = "digraph {
 ";
 
 // Each kind that may stand between a source and a sink, with its keys, the types of both, what is noted, and how many
-// inputs it has. scripts/generate writes these lines from kinds.toml: KINDS
+// inputs it has.
+// scripts/generate writes these lines from kinds.toml: KINDS
 const KINDS: [(&str, &str, &str, &str, &str, usize); 62] = [
     ("add_const", "type = \"int\"\nvalue = 1", "int", "int", "value 1<br/>", 1),
     ("multiply_const", "type = \"int\"\nvalue = 1", "int", "int", "value 1<br/>", 1),
