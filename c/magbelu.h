@@ -7,8 +7,8 @@
  * texts.
  *
  * Each buffer is a pointer and a number of bytes. NULL may stand for one of 0 bytes; with more it is refused (54).
- * Buffers that a call writes must not overlap those that it reads, nor one another. Calls on several threads at the
- * same time are allowed, since they share nothing, where each plant that is held is called by one thread at a time.
+ * Buffers that a call writes must not overlap those that it reads, nor one another. Several threads may call at the
+ * same time, since calls share nothing. Of the threads, one at a time calls a plant that is held.
  */
 #ifndef MAGBELU_H
 #define MAGBELU_H
@@ -53,8 +53,8 @@ struct magbelu_input {
     size_t len;
 };
 
-/* A sink of which something is wanted: with `tags` 0 the bytes of its items, else a line `@OFFSET:KEY=VALUE/SOURCE` for
- * each of its tags. */
+/* What is wanted of a sink: with `tags` 0 the bytes of its items, else a line `@OFFSET:KEY=VALUE/SOURCE` for each of
+ * its tags. */
 struct magbelu_output {
     const uint8_t *name;
     size_t name_len;
@@ -76,8 +76,8 @@ struct magbelu_plant {
 
 /*
  * A plant that streams: it runs in constant memory for as long as it is fed, since it forgets what its sources have
- * taken and what was drained of its sinks. Of the struct the same holds as of a plant's: begin it with
- * MAGBELU_NO_STREAM, and hand it to the calls magbelu_stream_... alone.
+ * taken and what was drained of its sinks. The rules of a plant's struct apply: begin it with MAGBELU_NO_STREAM, and
+ * hand it to the calls magbelu_stream_... alone.
  */
 struct magbelu_stream {
     struct magbelu_plant plant;
@@ -85,7 +85,7 @@ struct magbelu_stream {
 
 #define MAGBELU_NO_STREAM {MAGBELU_NO_PLANT}
 
-/* The numbers of refusals, of which magbelu_reason tells when each comes. */
+/* The numbers of refusals. magbelu_reason tells when each comes. */
 /* scripts/generate writes these lines from refusals.toml: numbers */
 #define MAGBELU_DUPLICATE_NAME 1
 #define MAGBELU_UNKNOWN_BLOCK 2
@@ -448,8 +448,9 @@ struct magbelu_slicing magbelu_bytes_slices(struct magbelu_plant *plant, uint32_
 struct magbelu_slicing magbelu_bytes_slice(struct magbelu_plant *plant, uint32_t tags, uint64_t begins, struct magbelu_cut_part *parts, size_t part_room);
 
 /*
- * Kernels over slices: each pointer with its number of items, `out` too. They answer 0; or MAGBELU_LENGTHS, where the
- * numbers differ, and then write nothing. Sums and products wrap. No pointer may be NULL, and `out` overlaps no other.
+ * Kernels over slices: each pointer with its number of items, `out` too. They answer 0. If the numbers differ, they
+ * answer MAGBELU_LENGTHS and write nothing. Sums and products wrap. No pointer may be NULL, and `out` overlaps no
+ * other.
  */
 uint32_t magbelu_kernel_add_shorts(const int16_t *a, size_t a_len, const int16_t *b, size_t b_len, int16_t *out, size_t out_len);
 uint32_t magbelu_kernel_add_ints(const int32_t *a, size_t a_len, const int32_t *b, size_t b_len, int32_t *out, size_t out_len);
@@ -557,9 +558,9 @@ static inline struct magbelu_answer magbelu_refused_null(char *error, size_t err
 /*
  * Reports the graph of a file, as `flow check FILE` does: its blocks, its connections, its rates.
  *
- * `file` has the text of the graph file. The output goes to `output`, where it fits into `output_room` bytes; the line
- * of a refusal goes to `error`, where it fits into `error_room`. Neither has a 0 at its end. To learn how much room is
- * needed, call with a room of 0 first.
+ * `file` has the text of the graph file. The output goes to `output` if it fits into `output_room` bytes; the line of a
+ * refusal goes to `error` if it fits into `error_room`. Neither has a 0 at its end. To learn how much room is needed,
+ * call with a room of 0 first.
  */
 static inline struct magbelu_answer magbelu_check(const void *file, size_t file_len, char *output, size_t output_room, char *error, size_t error_room) {
     uint64_t none = 0;
@@ -726,7 +727,7 @@ static inline struct magbelu_reply magbelu_feed(struct magbelu_plant *plant, con
     return magbelu_bytes_feed(plant, magbelu_read_at(source), source_len, big_endian, magbelu_read_at(bytes), len, tags != NULL ? tags : &no_tag, tag_count);
 }
 
-/* The same of numbers, each of which has to be an item of the source's type. */
+/* The same of numbers. Each must be an item of the source's type. */
 static inline struct magbelu_reply magbelu_feed_numbers(struct magbelu_plant *plant, const void *source, size_t source_len, const int64_t *numbers, size_t count,
                                                         const struct magbelu_tag *tags, size_t tag_count) {
     const struct magbelu_tag no_tag = {0, 0, (const uint8_t *)"", 0};
@@ -772,8 +773,8 @@ static inline struct magbelu_reply magbelu_step(struct magbelu_plant *plant, con
     return magbelu_bytes_step(plant, magbelu_read_at(block), block_len, max);
 }
 
-/* Steps all blocks until none can act: status 0 where all are done, which needs closed sources, and 3 where more would
- * have to be fed. */
+/* Steps all blocks until none can act. The status is 0 if all are done, and else 3: a source is open, or the graph
+ * stalled. */
 static inline struct magbelu_reply magbelu_settle(struct magbelu_plant *plant) { return plant == NULL ? magbelu_null_reply() : magbelu_bytes_settle(plant); }
 
 /*
@@ -820,8 +821,8 @@ static inline struct magbelu_listed magbelu_block(struct magbelu_plant *plant, u
     return magbelu_bytes_block(plant, number, magbelu_write_at(name, &none), name_room, magbelu_write_at(kind, &more), kind_room);
 }
 
-/* Tells the connections of the graph, in the order of the file, where all of them fit into the table, and how many they
- * are. */
+/* Tells how many connections the graph has. If all of them fit into the table, they are there, in the order of the
+ * file. */
 static inline struct magbelu_reply magbelu_connections(struct magbelu_plant *plant, struct magbelu_connection *connections, size_t room) {
     struct magbelu_connection none;
     if (plant == NULL || magbelu_is_null(connections, room)) {
@@ -831,8 +832,8 @@ static inline struct magbelu_reply magbelu_connections(struct magbelu_plant *pla
 }
 
 /*
- * Draws the graph, as `flow draw --format FORMAT FILE` does: `output` has the text in the format, where it fits, from
- * which Graphviz's `dot` or Mermaid makes a picture. It has no 0 at its end, and the answer no line.
+ * Draws the graph, as `flow draw --format FORMAT FILE` does. If the text in the format fits, it is in `output`;
+ * Graphviz's `dot` or Mermaid makes a picture of it. It has no 0 at its end, and the answer no line.
  */
 static inline struct magbelu_answer magbelu_draw(struct magbelu_plant *plant, uint32_t format, char *output, size_t output_room) {
     uint64_t none = 0;
@@ -844,8 +845,8 @@ static inline struct magbelu_answer magbelu_draw(struct magbelu_plant *plant, ui
 }
 
 /*
- * Tells how many items the buffer behind each connection has room for, in the order of magbelu_connections, where all
- * of them fit into the table, and how many connections there are.
+ * Tells how many connections there are. If all of them fit into the table, it has for each how many items the buffer
+ * behind it has room for, in the order of magbelu_connections.
  */
 static inline struct magbelu_reply magbelu_rooms(struct magbelu_plant *plant, uint64_t *rooms, size_t room) {
     uint64_t none = 0;
@@ -855,7 +856,7 @@ static inline struct magbelu_reply magbelu_rooms(struct magbelu_plant *plant, ui
     return magbelu_bytes_rooms(plant, rooms != NULL ? rooms : &none, room);
 }
 
-/* Tells what of the block of this number may be set. Its own taps are in `taps`, where they fit. A number that no block
+/* Tells what of the block of this number may be set. If its own taps fit, they are in `taps`. A number that no block
  * has is refused 20. */
 static inline struct magbelu_block_setting magbelu_setting(struct magbelu_plant *plant, uint32_t number, int16_t *taps, size_t room) {
     int16_t none = 0;
@@ -880,8 +881,8 @@ static inline struct magbelu_block_rates magbelu_rates(struct magbelu_plant *pla
 }
 
 /*
- * Tells how often each block fires in an iteration, where all of them fit into the table, and how many blocks there
- * are. Where no numbers of firings leave all buffers as they were (MAGBELU_UNEVEN), or the least are too many
+ * Tells how many blocks there are. If all of them fit into the table, it has for each how often it fires in an
+ * iteration. If no numbers of firings leave all buffers as they were (MAGBELU_UNEVEN), or the least are too many
  * (MAGBELU_TOO_OFTEN), nothing is written, and the value is 0.
  */
 static inline struct magbelu_reply magbelu_firings(struct magbelu_plant *plant, uint32_t *firings, size_t room) {

@@ -175,8 +175,9 @@ struct block_rates {
     std::uint64_t shifted;
 };
 
-/* How the runs of a graph are cut into slices of time: how many iterations before its own a slice reads, each source, each sink that keeps its items, and the first
- * block whose items rest on how many came before, or MAGBELU_NO_BLOCK. */
+/* How the runs of a graph are cut into slices of time: how many iterations before its own a slice reads, each
+ * source, each sink that keeps its items, and the first block whose items rest on how many came before, or
+ * MAGBELU_NO_BLOCK. */
 struct slice_plan {
     std::uint64_t overlap;
     std::vector<magbelu_cut_source> sources;
@@ -202,7 +203,7 @@ namespace detail {
     throw refused(number, std::move(detail), text, std::move(output), floor);
 }
 
-/* A refusal with its reason, where one is known. */
+/* A refusal with its reason, if one is known. */
 inline std::string with_reason(std::string text, std::uint32_t number) {
     const std::string reason = magbelu_reason(number);
     return reason.empty() ? text : text + ": " + reason;
@@ -391,7 +392,7 @@ public:
         return feed(source, std::data(items), std::size(items), marks);
     }
 
-    /* The same of numbers, each of which has to be an item of the source. */
+    /* The same of numbers. Each must be an item of the source. */
     std::uint64_t feed(std::string_view source, std::initializer_list<std::int64_t> numbers, const std::vector<mark> &marks = {}) {
         const auto tags = tags_of(marks);
         return reply(magbelu_feed_numbers(plant(), source.data(), source.size(), numbers.begin(), numbers.size(), tags.data(), tags.size()), source);
@@ -411,7 +412,7 @@ public:
         return reply(magbelu_set_taps(plant(), block.data(), block.size(), at, taps.data(), taps.size()), block);
     }
 
-    /* The same of taps in braces, of which one alone would be a number. */
+    /* The same of taps in braces. (One number in braces would be no list.) */
     std::uint64_t set(std::string_view block, std::initializer_list<std::int16_t> taps, std::uint64_t at = MAGBELU_NOW) {
         return set(block, std::vector<std::int16_t>(taps), at);
     }
@@ -422,8 +423,8 @@ public:
         return got.what == MAGBELU_DID ? got.value : 0;
     }
 
-    /* Runs the graph until it comes to rest, and gives whether all blocks are done, for which all sources have to be
-     * closed. */
+    /* Runs the graph until it comes to rest, and gives whether all blocks are done. A source that is open is not done
+     * while a block reads it. */
     bool settle() { return tested(magbelu_settle(plant()), "").status == 0; }
 
     /* What a block waits for. */
@@ -660,7 +661,7 @@ private:
 };
 
 /* A graph that streams: it forgets what its sources have taken and what was drained, and so runs in constant memory for
- * as long as it is fed. Of it the same holds. */
+ * as long as it is fed. The rules of `graph` apply. */
 class stream : public detail::held {
 public:
     /* The graph of a graph file's text, which is called `path` where it is refused. */

@@ -17,7 +17,7 @@ from ._stream import Stream
 WHOLE = (5, 7, 8, 11, 12)
 # The numbers of the refusals of names.
 DUPLICATE_NAME, UNKNOWN_BLOCK = 1, 2
-#: An end of a connection: a block, of which it is port 0, or a block with a port.
+#: An end of a connection: a block, for its port 0, or a block with a port.
 End = Union[str, tuple[str, int]]
 
 
@@ -59,12 +59,12 @@ def end_of(end: End) -> tuple[str, int]:
 
 
 def port_of(key: str, port: int) -> dict[str, int]:
-    """A port under its key, where it is not the first, which a file need not name."""
+    """A port under its key. A file need not name the first."""
     return {key: port} if port else {}
 
 
 def test(text: str, what: str, number: int = 0) -> None:
-    """Refuses a piece of a graph file, as the library does, of which the first block has this number in the whole."""
+    """Refuses a piece of a graph file, as the library does. Its first block has this number in the whole."""
     try:
         texts("check", text, path=what)
     except Refused as refusal:
@@ -114,8 +114,8 @@ class Builder(KindBlocks):
         return name
 
     def connect(self, writer: End, reader: End) -> None:
-        """Connects an output to an input. An end is the name of a block, of which it is port 0, or a pair of the name
-        and a port.
+        """Connects an output to an input. An end is the name of a block, for its port 0, or a pair of the name and a
+        port.
 
         >>> builder = Builder()
         >>> for name in ("one", "two"):

@@ -27,7 +27,7 @@ def convolutional(*polynomials: SupportsIndex, order: Order = "msb_first") -> Co
     """The tables of the convolutional code that gives a word for each bit, with a bit of each polynomial, that of the
     first the highest. The highest bit of the greatest polynomial is for the newest bit that came, as in the usual octal
     numbers and GNU Radio's `trellis.fsm(1, n, polynomials)`; with the order "lsb_first" it is bit 0, as in its
-    `cc_encoder`. The state is the bits before the newest, of which the last to come is the highest.
+    `cc_encoder`. The state is the bits before the newest; the last of them to come is the highest.
 
     >>> code = magbelu.convolutional(0o7, 0o5)
     >>> code.next, code.output

@@ -221,8 +221,8 @@ class Held:
         return int(reply.value) if reply.what == 0 else 0
 
     def settle(self) -> bool:
-        """Runs the graph until it comes to rest. It gives whether all blocks are done, for which all sources have to be
-        closed; each sink has taken its whole stream then."""
+        """Runs the graph until it comes to rest, and gives whether all blocks are done. Then each sink has taken its
+        whole stream. A source that is open is not done while a block reads it."""
         return bool(self._call("settle", "").status == 0)
 
     def need(self, block: Text) -> Need:
@@ -238,8 +238,8 @@ class Held:
         return Need(what, int(reply.value) if what in ("items", "room") else None)
 
     def slices(self, tags: bool = False) -> Slices:
-        """How the runs of the graph are cut into slices of time that give the items of the whole run, and its tags too
-        where these are asked for. A graph is refused (63) of which a block keeps all that it was given.
+        """How the runs of the graph are cut into slices of time that give the items of the whole run, and with `tags`
+        its tags too. 63 refuses a graph with a block that keeps all that it was given.
 
         >>> graph = magbelu.Graph(magbelu.EXAMPLE.replace("add_const", "moving_sum").replace("value = 10", "length = 4"))
         >>> graph.slices()
@@ -248,9 +248,9 @@ class Held:
         return plan_of(self, tags)
 
     def slice(self, begins: SupportsIndex, tags: bool = False) -> Slice:
-        """The slice that begins at an iteration, of which none lies within the first overlap (64): run on what it does
-        not leave out of its sources, by a stream for it (`Stream.anew`), it gives each sink what the whole run gives
-        from there on, behind what is dropped.
+        """The slice that begins at an iteration; 64 refuses one within the first overlap. A stream for it
+        (`Stream.anew`) is fed what it does not leave out of its sources. Behind what is dropped, it gives each sink
+        what the whole run gives from there on.
 
         >>> graph = magbelu.Graph(magbelu.EXAMPLE.replace("add_const", "moving_sum").replace("value = 10", "length = 4"))
         >>> graph.slice(100)
@@ -348,8 +348,8 @@ class Held:
         return [Port(it.name, it.input_type) for it in self.blocks if it.role == "sink" and it.input_type]
 
     def draw(self, format: str = "dot") -> str:
-        """The graph as text from which Graphviz's `dot` draws it, or with "mermaid" Mermaid, as `flow draw` writes it;
-        or with "svg" the picture, for which `dot` has to be installed. In a notebook a graph shows itself so.
+        """The graph as text for Graphviz's `dot`, or with "mermaid" for Mermaid, as `flow draw` writes it. With "svg"
+        it is the picture, if `dot` is installed; a notebook shows a graph so.
 
         >>> print(magbelu.Graph(magbelu.EXAMPLE).draw(), end="")
         digraph {

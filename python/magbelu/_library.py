@@ -249,7 +249,7 @@ def lent_name(name: bytes) -> Lent:
 
 
 class Room:
-    """Memory for an answer, of which only what is written takes place."""
+    """Memory for an answer. Only what is written takes place."""
 
     def __init__(self, size: int) -> None:
         self.size = size

@@ -82,8 +82,8 @@ class Need(NamedTuple):
 
 
 class Setting(NamedTuple):
-    """What of a block may be set: a number, or as many taps as its own, of which each lies between the least and the
-    most. `value` is the block's own, which is in force until another is set.
+    """What of a block may be set: a number, or as many taps as its own. Each lies between the least and the most.
+    `value` is the block's own, which is in force until another is set.
 
     >>> Setting(0, 255, 10).most
     255
@@ -185,7 +185,7 @@ def rates_of(calls: Any, plant: Any, number: int, inputs: int, tested: Any) -> R
 
 
 def firings_of(calls: Any, plant: Any, blocks: list[Block]) -> Optional[dict[str, int]]:
-    """How often each of these blocks fires in an iteration, where the rates have a balance."""
+    """How often each of these blocks fires in an iteration, if the rates have a balance."""
     rows = (ctypes.c_uint32 * max(len(blocks), 1))()
     what = told(calls.magbelu_bytes_firings(plant, ctypes.addressof(rows), len(blocks))).what
     return {it.name: count for it, count in zip(blocks, rows)} if what == BALANCED else None

@@ -26,7 +26,7 @@ def ports_of(held: Held) -> Ports:
 
 
 def ports(path: Path) -> Ports:
-    """The ports that the block of a graph file has, for which no GNU Radio is needed.
+    """The ports that the block of a graph file has. It needs no GNU Radio.
 
     >>> ports("examples/echo/graph.toml").outputs
     [Port(name='out', type='byte'), Port(name='dry', type='byte')]

@@ -14,8 +14,8 @@ NO_SLICES, NO_BLOCK = 63, 2**32 - 1
 
 
 class SourceSlices(NamedTuple):
-    """How what a source gets is cut: how many items it gives in an iteration, and how many items before its own a slice
-    reads."""
+    """How the tape of a source is cut: how many items it gives in an iteration, and how many items before its own a
+    slice reads."""
 
     source: str
     period: int
@@ -23,8 +23,8 @@ class SourceSlices(NamedTuple):
 
 
 class SinkSlices(NamedTuple):
-    """How what a sink gives is put together: how many items it takes in an iteration, and how many a slice drops that
-    does not begin the run."""
+    """How the parts of a sink are joined: how many items it takes in an iteration, and how many each slice but the
+    first drops."""
 
     sink: str
     period: int
@@ -57,7 +57,7 @@ class Slice(NamedTuple):
 
 
 def tested(slicing: Any, names: list[str]) -> Any:
-    """The answer of a call about slices, where it is not refused."""
+    """The answer of a call about slices that is not refused."""
     if slicing.number != NO_SLICES:
         if slicing.number:
             raise refused(slicing.number, "", slicing.status == 4)

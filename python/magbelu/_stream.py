@@ -67,9 +67,8 @@ class Levels(NamedTuple):
 
 class Stream(Held):
     """A graph that streams: it forgets what its sources have taken and what was drained of its sinks, and so runs in
-    constant memory for as long as it is fed. `path` is only what the text is called where it is refused. Where it is no
-    longer needed it is freed, at the end of a `with` or when it goes. With `leaves_out` it is one for a slice, as
-    `anew` gives it.
+    constant memory for as long as it is fed. `path` is only what a refusal calls the text. It is freed at the end of a
+    `with`, or when nobody holds it. With `leaves_out` it is one for a slice, as `anew` gives it.
 
     >>> with Stream(magbelu.EXAMPLE) as stream:
     ...     for number in (1, 2):
@@ -176,7 +175,7 @@ class Stream(Held):
         return self._item_sizes[name]
 
     def _drained_to(self, sink: Text, most: int, at: Optional[int], size: int) -> tuple[Any, list[Tag]]:
-        """Drains into memory of this size, where the items fit: else nothing is taken away, and there are no tags."""
+        """Drains into memory of this size. If the items do not fit, nothing is taken away, and there are no tags."""
         name = lent_name(bytes_of(sink))
         while True:
             lines = self._lines
@@ -233,9 +232,9 @@ class Stream(Held):
             is_over = is_over or not lacking
 
     def through_async(self, /, **pieces: Union[Iterable[Items], AsyncIterable[Items]]) -> AsyncIterator[Piece]:
-        """The same for `async for`, where `pieces` may have asynchronous iterables too. A source whose next piece does
-        not come holds up only what needs its items, and the graph runs in a thread of its own meanwhile: whoever else
-        has the stream may set its blocks.
+        """The same for `async for`; `pieces` may have asynchronous iterables too. A source whose next piece does not
+        come holds up only what needs its items. The graph runs in a thread of its own meanwhile, so whoever else has
+        the stream may set its blocks.
 
         >>> import asyncio
         >>> async def show(stream):

@@ -30,20 +30,20 @@ Setting = Union[SupportsIndex, Iterable[SupportsIndex]]
 
 
 class Flowgraph(HierBlock):  # type: ignore[misc]
-    """The graph of a file as a block of GNU Radio: its input ports are the graph's sources, its output ports its vector
-    sinks, of which it has to have one, in the order of the file, and each has to be connected. `text` stands for the
-    file where it is given, and `path` is then only what it is called. What the file feeds a source comes before what
-    the port brings.
+    """The graph of a file as a block of GNU Radio. Its input ports are the graph's sources, its output ports the vector
+    sinks, in the order of the file. It has at least one sink, and each port must be connected. If `text` is given, it
+    stands for the file, and `path` is only what it is called. What the file feeds a source comes before what the port
+    brings.
 
-    Memory is constant, and each source is fed only where it lacks items. Tags come in whose key is a symbol of 1 to 16
-    letters, digits, `_`, `.` or `-` and whose value is a long, and go out at the items where the graph puts them, with
-    the name of their source as source id. All others are left out, and `tags_left_out` counts them; with `other_tags`
+    Memory is constant, and a source is fed only when it lacks items. A tag comes in if its key is a symbol of 1 to 16
+    letters, digits, `_`, `.` or `-`, and its value a long. Tags go out at the items where the graph puts them, with the
+    name of their source as source id. All others are left out, and `tags_left_out` counts them; with `other_tags`
     "refuse" one of them ends the block.
 
-    A source is closed once the blocks before its port are done and all of it was taken, and this block is done once its
-    graph is, and all was given. Then `outcome` is "done"; or "stalled", where the graph came to rest before its end; or
-    "failed", and `fault` is the exception; GNU Radio's log has the last two. As long as it is None, a stopped block
-    goes on where it is when it is started again. One that has ended begins anew, with the values of the file.
+    A source is closed once the blocks before its port are done and all of it was taken. This block is done once its
+    graph is, and all was given. Then `outcome` is "done"; "stalled", if the graph came to rest before its end; or
+    "failed", and `fault` is the exception. GNU Radio's log has the last two. As long as `outcome` is None, a stopped
+    block goes on where it is when it is started again. One that has ended begins anew, with the values of the file.
 
     Keep a reference to it as long as the flowgraph is there, as to every block in Python.
     """
