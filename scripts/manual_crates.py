@@ -10,11 +10,13 @@ from spec_files import TOP
 
 CRATES_HEAD = """# Crates
 
-Each crate, from the bottom up: the head of its `src/lib.rt`, and what it uses. [ARCHITECTURE.md](ARCHITECTURE.md) has how data flows through them.
+Each crate, from the bottom up: the head of its `src/lib.rt`, and what it uses. [ARCHITECTURE.md](ARCHITECTURE.md) has
+how data flows through them.
 """
 LAWS_HEAD = """# Laws
 
-Each law of the definitions, by the function whose clause states it. [MODEL.md](MODEL.md#laws-and-worked-rows) says what they come to.
+Each law of the definitions, by the function whose clause states it. [MODEL.md](MODEL.md#laws-and-worked-rows) says what
+they come to.
 """
 # A name that leads to an item in the reference of rustdoc, and stands here as code.
 NAMED = re.compile(r"\[(`[^`\]]+`)\](?:\([\w:]+\))?")

@@ -24,7 +24,10 @@ filled() {
 # libc_of_built: prints the package of the C library in the version that the program and the shared library need
 libc_of_built() {
     local version
-    version=$({ objdump -T "$program"-x86-64-v* "$c_folder/libmagbelu.so" "$c_folder"/glibc-hwcaps/*/libmagbelu.so 2>/dev/null || true; } | { grep -oE 'GLIBC_[0-9.]+' || true; } | sort -Vu | tail -n 1)
+    version=$(
+        { objdump -T "$program"-x86-64-v* "$c_folder/libmagbelu.so" "$c_folder"/glibc-hwcaps/*/libmagbelu.so || true; } 2>/dev/null |
+            { grep -oE 'GLIBC_[0-9.]+' || true; } | sort -Vu | tail -n 1
+    )
     echo "libc6${version:+ (>= ${version#GLIBC_})}"
 }
 

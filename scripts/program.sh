@@ -8,7 +8,7 @@ command_crate=flow_command
 # The crate of the static library for C.
 c_crate=magbelu_c
 # The minutes that a first ./build takes on four cores.
-build_minutes=35
+build_minutes=60
 
 # (`cd` would go by CDPATH, and a link to a script does not stand in this checkout.)
 top=$(dirname -- "$(dirname -- "$(readlink -f -- "${BASH_SOURCE[0]}")")")
