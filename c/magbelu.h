@@ -373,100 +373,132 @@ struct magbelu_cut_part {
  */
 uint32_t magbelu_version(void);
 
-struct magbelu_answer magbelu_bytes_check(const uint8_t *file, size_t file_len, uint8_t *output, size_t output_room, uint8_t *error, size_t error_room);
+struct magbelu_answer magbelu_bytes_check(const uint8_t *file, size_t file_len, uint8_t *output, size_t output_room,
+                                          uint8_t *error, size_t error_room);
 
-struct magbelu_answer magbelu_bytes_run(const uint8_t *file, size_t file_len, uint8_t *output, size_t output_room, uint8_t *error, size_t error_room);
+struct magbelu_answer magbelu_bytes_run(const uint8_t *file, size_t file_len, uint8_t *output, size_t output_room,
+                                        uint8_t *error, size_t error_room);
 
-struct magbelu_answer magbelu_bytes_script(const uint8_t *file, size_t file_len, const uint8_t *script, size_t script_len, uint8_t *output,
-                                           size_t output_room, uint8_t *error, size_t error_room);
+struct magbelu_answer magbelu_bytes_script(const uint8_t *file, size_t file_len, const uint8_t *script,
+                                           size_t script_len, uint8_t *output, size_t output_room, uint8_t *error,
+                                           size_t error_room);
 
-struct magbelu_answer magbelu_bytes_explain(const uint8_t *name, size_t name_len, const uint8_t *file, size_t file_len, uint8_t *output,
-                                            size_t output_room, uint8_t *error, size_t error_room);
+struct magbelu_answer magbelu_bytes_explain(const uint8_t *name, size_t name_len, const uint8_t *file, size_t file_len,
+                                            uint8_t *output, size_t output_room, uint8_t *error, size_t error_room);
 
 struct magbelu_fault_place magbelu_bytes_place(const uint8_t *file, size_t file_len, uint8_t *why, size_t why_room);
 
-struct magbelu_answer magbelu_bytes_run_items(const uint8_t *file, size_t file_len, uint32_t big_endian, const struct magbelu_input *inputs,
-                                              size_t input_count, const struct magbelu_output *outputs, size_t output_count, uint64_t *lens,
-                                              size_t lens_room, uint8_t *bytes, size_t bytes_room, uint8_t *error, size_t error_room);
+struct magbelu_answer magbelu_bytes_run_items(const uint8_t *file, size_t file_len, uint32_t big_endian,
+                                              const struct magbelu_input *inputs, size_t input_count,
+                                              const struct magbelu_output *outputs, size_t output_count, uint64_t *lens,
+                                              size_t lens_room, uint8_t *bytes, size_t bytes_room, uint8_t *error,
+                                              size_t error_room);
 
-struct magbelu_answer magbelu_bytes_open(struct magbelu_plant *plant, const uint8_t *file, size_t file_len, uint8_t *error, size_t error_room);
+struct magbelu_answer magbelu_bytes_open(struct magbelu_plant *plant, const uint8_t *file, size_t file_len,
+                                         uint8_t *error, size_t error_room);
 
-struct magbelu_answer magbelu_bytes_open_stream(struct magbelu_plant *plant, const uint8_t *file, size_t file_len, uint8_t *error, size_t error_room);
+struct magbelu_answer magbelu_bytes_open_stream(struct magbelu_plant *plant, const uint8_t *file, size_t file_len,
+                                                uint8_t *error, size_t error_room);
 
-struct magbelu_answer magbelu_bytes_open_stream_at(struct magbelu_plant *plant, const uint8_t *file, size_t file_len, uint64_t iterations, uint8_t *error,
-                                                   size_t error_room);
+struct magbelu_answer magbelu_bytes_open_stream_at(struct magbelu_plant *plant, const uint8_t *file, size_t file_len,
+                                                   uint64_t iterations, uint8_t *error, size_t error_room);
 
 struct magbelu_reply magbelu_bytes_free(struct magbelu_plant *plant);
 
 struct magbelu_reply magbelu_bytes_item_size(struct magbelu_plant *plant, const uint8_t *source, size_t source_len);
 
-struct magbelu_reply magbelu_bytes_feed(struct magbelu_plant *plant, const uint8_t *source, size_t source_len, uint32_t big_endian, const uint8_t *bytes,
-                                        size_t len, const struct magbelu_tag *tags, size_t tag_count);
+struct magbelu_reply magbelu_bytes_feed(struct magbelu_plant *plant, const uint8_t *source, size_t source_len,
+                                        uint32_t big_endian, const uint8_t *bytes, size_t len,
+                                        const struct magbelu_tag *tags, size_t tag_count);
 
-struct magbelu_reply magbelu_bytes_feed_numbers(struct magbelu_plant *plant, const uint8_t *source, size_t source_len, const int64_t *numbers, size_t count,
-                                                const struct magbelu_tag *tags, size_t tag_count);
+struct magbelu_reply magbelu_bytes_feed_numbers(struct magbelu_plant *plant, const uint8_t *source, size_t source_len,
+                                                const int64_t *numbers, size_t count, const struct magbelu_tag *tags,
+                                                size_t tag_count);
 
 struct magbelu_reply magbelu_bytes_close(struct magbelu_plant *plant, const uint8_t *source, size_t source_len);
 
-struct magbelu_reply magbelu_bytes_set(struct magbelu_plant *plant, const uint8_t *block, size_t block_len, uint64_t at, int64_t number);
+struct magbelu_reply magbelu_bytes_set(struct magbelu_plant *plant, const uint8_t *block, size_t block_len, uint64_t at,
+                                       int64_t number);
 
-struct magbelu_reply magbelu_bytes_set_taps(struct magbelu_plant *plant, const uint8_t *block, size_t block_len, uint64_t at, const int16_t *taps, size_t count);
+struct magbelu_reply magbelu_bytes_set_taps(struct magbelu_plant *plant, const uint8_t *block, size_t block_len,
+                                            uint64_t at, const int16_t *taps, size_t count);
 
-struct magbelu_reply magbelu_bytes_step(struct magbelu_plant *plant, const uint8_t *block, size_t block_len, uint32_t max);
+struct magbelu_reply magbelu_bytes_step(struct magbelu_plant *plant, const uint8_t *block, size_t block_len,
+                                        uint32_t max);
 
 struct magbelu_reply magbelu_bytes_settle(struct magbelu_plant *plant);
 
 struct magbelu_reply magbelu_bytes_need(struct magbelu_plant *plant, const uint8_t *block, size_t block_len);
 
-struct magbelu_piece magbelu_bytes_read(struct magbelu_plant *plant, const uint8_t *sink, size_t sink_len, uint64_t from, uint64_t max, uint32_t big_endian,
-                                        uint8_t *bytes, size_t bytes_room, uint8_t *tags, size_t tags_room);
+struct magbelu_piece magbelu_bytes_read(struct magbelu_plant *plant, const uint8_t *sink, size_t sink_len,
+                                        uint64_t from, uint64_t max, uint32_t big_endian, uint8_t *bytes,
+                                        size_t bytes_room, uint8_t *tags, size_t tags_room);
 
-struct magbelu_piece magbelu_bytes_drain(struct magbelu_plant *plant, const uint8_t *sink, size_t sink_len, uint64_t max, uint32_t big_endian, uint8_t *bytes,
-                                         size_t bytes_room, uint8_t *tags, size_t tags_room);
+struct magbelu_piece magbelu_bytes_drain(struct magbelu_plant *plant, const uint8_t *sink, size_t sink_len,
+                                         uint64_t max, uint32_t big_endian, uint8_t *bytes, size_t bytes_room,
+                                         uint8_t *tags, size_t tags_room);
 
 struct magbelu_levels magbelu_bytes_levels(struct magbelu_plant *plant, const uint8_t *block, size_t block_len);
 
 struct magbelu_reply magbelu_bytes_block_count(struct magbelu_plant *plant);
 
-struct magbelu_listed magbelu_bytes_block(struct magbelu_plant *plant, uint32_t number, uint8_t *name, size_t name_room, uint8_t *kind, size_t kind_room);
+struct magbelu_listed magbelu_bytes_block(struct magbelu_plant *plant, uint32_t number, uint8_t *name, size_t name_room,
+                                          uint8_t *kind, size_t kind_room);
 
-struct magbelu_reply magbelu_bytes_connections(struct magbelu_plant *plant, struct magbelu_connection *connections, size_t room);
+struct magbelu_reply magbelu_bytes_connections(struct magbelu_plant *plant, struct magbelu_connection *connections,
+                                               size_t room);
 
-struct magbelu_answer magbelu_bytes_draw(struct magbelu_plant *plant, uint32_t format, uint8_t *output, size_t output_room);
+struct magbelu_answer magbelu_bytes_draw(struct magbelu_plant *plant, uint32_t format, uint8_t *output,
+                                         size_t output_room);
 
 struct magbelu_reply magbelu_bytes_rooms(struct magbelu_plant *plant, uint64_t *rooms, size_t room);
 
-struct magbelu_block_setting magbelu_bytes_setting(struct magbelu_plant *plant, uint32_t number, int16_t *taps, size_t room);
+struct magbelu_block_setting magbelu_bytes_setting(struct magbelu_plant *plant, uint32_t number, int16_t *taps,
+                                                   size_t room);
 
-struct magbelu_block_rates magbelu_bytes_rates(struct magbelu_plant *plant, uint32_t number, uint64_t *takes, size_t room);
+struct magbelu_block_rates magbelu_bytes_rates(struct magbelu_plant *plant, uint32_t number, uint64_t *takes,
+                                               size_t room);
 
 struct magbelu_reply magbelu_bytes_firings(struct magbelu_plant *plant, uint32_t *firings, size_t room);
 
-struct magbelu_slicing magbelu_bytes_slices(struct magbelu_plant *plant, uint32_t tags, struct magbelu_cut_source *sources, size_t source_room,
+struct magbelu_slicing magbelu_bytes_slices(struct magbelu_plant *plant, uint32_t tags,
+                                            struct magbelu_cut_source *sources, size_t source_room,
                                             struct magbelu_cut_sink *sinks, size_t sink_room);
 
-struct magbelu_slicing magbelu_bytes_slice(struct magbelu_plant *plant, uint32_t tags, uint64_t begins, struct magbelu_cut_part *parts, size_t part_room);
+struct magbelu_slicing magbelu_bytes_slice(struct magbelu_plant *plant, uint32_t tags, uint64_t begins,
+                                           struct magbelu_cut_part *parts, size_t part_room);
 
 /*
  * Kernels over slices: each pointer with its number of items, `out` too. They answer 0. If the numbers differ, they
  * answer MAGBELU_LENGTHS and write nothing. Sums and products wrap. No pointer may be NULL, and `out` overlaps no
  * other.
  */
-uint32_t magbelu_kernel_add_shorts(const int16_t *a, size_t a_len, const int16_t *b, size_t b_len, int16_t *out, size_t out_len);
-uint32_t magbelu_kernel_add_ints(const int32_t *a, size_t a_len, const int32_t *b, size_t b_len, int32_t *out, size_t out_len);
+uint32_t magbelu_kernel_add_shorts(const int16_t *a, size_t a_len, const int16_t *b, size_t b_len, int16_t *out,
+                                   size_t out_len);
+uint32_t magbelu_kernel_add_ints(const int32_t *a, size_t a_len, const int32_t *b, size_t b_len, int32_t *out,
+                                 size_t out_len);
 uint32_t magbelu_kernel_add_number_shorts(const int16_t *a, size_t a_len, int16_t number, int16_t *out, size_t out_len);
 uint32_t magbelu_kernel_add_number_ints(const int32_t *a, size_t a_len, int32_t number, int32_t *out, size_t out_len);
 uint32_t magbelu_kernel_multiply_shorts(const int16_t *a, size_t a_len, int16_t number, int16_t *out, size_t out_len);
 uint32_t magbelu_kernel_multiply_ints(const int32_t *a, size_t a_len, int32_t number, int32_t *out, size_t out_len);
-uint32_t magbelu_kernel_and_bytes(const uint8_t *a, size_t a_len, const uint8_t *b, size_t b_len, uint8_t *out, size_t out_len);
-uint32_t magbelu_kernel_and_shorts(const int16_t *a, size_t a_len, const int16_t *b, size_t b_len, int16_t *out, size_t out_len);
-uint32_t magbelu_kernel_and_ints(const int32_t *a, size_t a_len, const int32_t *b, size_t b_len, int32_t *out, size_t out_len);
-uint32_t magbelu_kernel_or_bytes(const uint8_t *a, size_t a_len, const uint8_t *b, size_t b_len, uint8_t *out, size_t out_len);
-uint32_t magbelu_kernel_or_shorts(const int16_t *a, size_t a_len, const int16_t *b, size_t b_len, int16_t *out, size_t out_len);
-uint32_t magbelu_kernel_or_ints(const int32_t *a, size_t a_len, const int32_t *b, size_t b_len, int32_t *out, size_t out_len);
-uint32_t magbelu_kernel_xor_bytes(const uint8_t *a, size_t a_len, const uint8_t *b, size_t b_len, uint8_t *out, size_t out_len);
-uint32_t magbelu_kernel_xor_shorts(const int16_t *a, size_t a_len, const int16_t *b, size_t b_len, int16_t *out, size_t out_len);
-uint32_t magbelu_kernel_xor_ints(const int32_t *a, size_t a_len, const int32_t *b, size_t b_len, int32_t *out, size_t out_len);
+uint32_t magbelu_kernel_and_bytes(const uint8_t *a, size_t a_len, const uint8_t *b, size_t b_len, uint8_t *out,
+                                  size_t out_len);
+uint32_t magbelu_kernel_and_shorts(const int16_t *a, size_t a_len, const int16_t *b, size_t b_len, int16_t *out,
+                                   size_t out_len);
+uint32_t magbelu_kernel_and_ints(const int32_t *a, size_t a_len, const int32_t *b, size_t b_len, int32_t *out,
+                                 size_t out_len);
+uint32_t magbelu_kernel_or_bytes(const uint8_t *a, size_t a_len, const uint8_t *b, size_t b_len, uint8_t *out,
+                                 size_t out_len);
+uint32_t magbelu_kernel_or_shorts(const int16_t *a, size_t a_len, const int16_t *b, size_t b_len, int16_t *out,
+                                  size_t out_len);
+uint32_t magbelu_kernel_or_ints(const int32_t *a, size_t a_len, const int32_t *b, size_t b_len, int32_t *out,
+                                size_t out_len);
+uint32_t magbelu_kernel_xor_bytes(const uint8_t *a, size_t a_len, const uint8_t *b, size_t b_len, uint8_t *out,
+                                  size_t out_len);
+uint32_t magbelu_kernel_xor_shorts(const int16_t *a, size_t a_len, const int16_t *b, size_t b_len, int16_t *out,
+                                   size_t out_len);
+uint32_t magbelu_kernel_xor_ints(const int32_t *a, size_t a_len, const int32_t *b, size_t b_len, int32_t *out,
+                                 size_t out_len);
 
 /* (not for callers) */
 struct magbelu_row {
@@ -541,7 +573,9 @@ static inline int magbelu_is_null(const void *at, size_t len) { return at == NUL
 
 static inline const uint8_t *magbelu_read_at(const void *at) { return (const uint8_t *)(at != NULL ? at : ""); }
 
-static inline uint8_t *magbelu_write_at(void *at, uint64_t *none) { return (uint8_t *)(at != NULL ? at : (void *)none); }
+static inline uint8_t *magbelu_write_at(void *at, uint64_t *none) {
+    return (uint8_t *)(at != NULL ? at : (void *)none);
+}
 
 static inline struct magbelu_answer magbelu_refused_null(char *error, size_t error_room) {
     static const char line[] = "magbelu: refused 54 Null\n";
@@ -562,12 +596,14 @@ static inline struct magbelu_answer magbelu_refused_null(char *error, size_t err
  * refusal goes to `error` if it fits into `error_room`. Neither has a 0 at its end. To learn how much room is needed,
  * call with a room of 0 first.
  */
-static inline struct magbelu_answer magbelu_check(const void *file, size_t file_len, char *output, size_t output_room, char *error, size_t error_room) {
+static inline struct magbelu_answer magbelu_check(const void *file, size_t file_len, char *output, size_t output_room,
+                                                  char *error, size_t error_room) {
     uint64_t none = 0;
     if (magbelu_is_null(file, file_len) || magbelu_is_null(output, output_room) || magbelu_is_null(error, error_room)) {
         return magbelu_refused_null(error, error_room);
     }
-    return magbelu_bytes_check(magbelu_read_at(file), file_len, magbelu_write_at(output, &none), output_room, magbelu_write_at(error, &none), error_room);
+    return magbelu_bytes_check(magbelu_read_at(file), file_len, magbelu_write_at(output, &none), output_room,
+                               magbelu_write_at(error, &none), error_room);
 }
 
 /*
@@ -575,27 +611,31 @@ static inline struct magbelu_answer magbelu_check(const void *file, size_t file_
  * --one-thread FILE` does: the sources are fed what the file says, and closed. Status 3 where it came to rest before
  * all blocks were done.
  */
-static inline struct magbelu_answer magbelu_run(const void *file, size_t file_len, char *output, size_t output_room, char *error, size_t error_room) {
+static inline struct magbelu_answer magbelu_run(const void *file, size_t file_len, char *output, size_t output_room,
+                                                char *error, size_t error_room) {
     uint64_t none = 0;
     if (magbelu_is_null(file, file_len) || magbelu_is_null(output, output_room) || magbelu_is_null(error, error_room)) {
         return magbelu_refused_null(error, error_room);
     }
-    return magbelu_bytes_run(magbelu_read_at(file), file_len, magbelu_write_at(output, &none), output_room, magbelu_write_at(error, &none), error_room);
+    return magbelu_bytes_run(magbelu_read_at(file), file_len, magbelu_write_at(output, &none), output_room,
+                             magbelu_write_at(error, &none), error_room);
 }
 
 /*
  * Makes a call of the graph for each line of `script` (feed, close, set, step, read ..), as `flow script FILE` does.
  * The output has a reply for each, also where a later line is refused: then it has those of the lines before it.
  */
-static inline struct magbelu_answer magbelu_script(const void *file, size_t file_len, const void *script, size_t script_len, char *output,
-                                                   size_t output_room, char *error, size_t error_room) {
+static inline struct magbelu_answer magbelu_script(const void *file, size_t file_len, const void *script,
+                                                   size_t script_len, char *output, size_t output_room, char *error,
+                                                   size_t error_room) {
     uint64_t none = 0;
-    if (magbelu_is_null(file, file_len) || magbelu_is_null(script, script_len) || magbelu_is_null(output, output_room) ||
-        magbelu_is_null(error, error_room)) {
+    if (magbelu_is_null(file, file_len) || magbelu_is_null(script, script_len) ||
+        magbelu_is_null(output, output_room) || magbelu_is_null(error, error_room)) {
         return magbelu_refused_null(error, error_room);
     }
-    return magbelu_bytes_script(magbelu_read_at(file), file_len, magbelu_read_at(script), script_len, magbelu_write_at(output, &none), output_room,
-                                magbelu_write_at(error, &none), error_room);
+    return magbelu_bytes_script(magbelu_read_at(file), file_len, magbelu_read_at(script), script_len,
+                                magbelu_write_at(output, &none), output_room, magbelu_write_at(error, &none),
+                                error_room);
 }
 
 /*
@@ -611,14 +651,17 @@ static inline struct magbelu_answer magbelu_script(const void *file, size_t file
  * output is empty, and so it is where memory runs out for these lines. Call it where another call refused the file: it
  * reads the file anew.
  */
-static inline struct magbelu_answer magbelu_explain(const void *name, size_t name_len, const void *file, size_t file_len, char *output, size_t output_room,
-                                                    char *error, size_t error_room) {
+static inline struct magbelu_answer magbelu_explain(const void *name, size_t name_len, const void *file,
+                                                    size_t file_len, char *output, size_t output_room, char *error,
+                                                    size_t error_room) {
     uint64_t none = 0;
-    if (magbelu_is_null(name, name_len) || magbelu_is_null(file, file_len) || magbelu_is_null(output, output_room) || magbelu_is_null(error, error_room)) {
+    if (magbelu_is_null(name, name_len) || magbelu_is_null(file, file_len) || magbelu_is_null(output, output_room) ||
+        magbelu_is_null(error, error_room)) {
         return magbelu_refused_null(error, error_room);
     }
-    return magbelu_bytes_explain(magbelu_read_at(name), name_len, magbelu_read_at(file), file_len, magbelu_write_at(output, &none), output_room,
-                                 magbelu_write_at(error, &none), error_room);
+    return magbelu_bytes_explain(magbelu_read_at(name), name_len, magbelu_read_at(file), file_len,
+                                 magbelu_write_at(output, &none), output_room, magbelu_write_at(error, &none),
+                                 error_room);
 }
 
 /*
@@ -645,15 +688,18 @@ static inline struct magbelu_fault_place magbelu_place(const void *file, size_t 
  * of it fits: the answer's `output_len` is the number of all bytes, and a call with `bytes_room` 0 and room for `lens`
  * tells all lengths. A refusal names the entry of its table, as `flow: refused 22 NotSink output 0`.
  */
-static inline struct magbelu_answer magbelu_run_items(const void *file, size_t file_len, uint32_t big_endian, const struct magbelu_input *inputs,
-                                                      size_t input_count, const struct magbelu_output *outputs, size_t output_count, uint64_t *lens,
-                                                      size_t lens_room, void *bytes, size_t bytes_room, char *error, size_t error_room) {
+static inline struct magbelu_answer magbelu_run_items(const void *file, size_t file_len, uint32_t big_endian,
+                                                      const struct magbelu_input *inputs, size_t input_count,
+                                                      const struct magbelu_output *outputs, size_t output_count,
+                                                      uint64_t *lens, size_t lens_room, void *bytes, size_t bytes_room,
+                                                      char *error, size_t error_room) {
     const struct magbelu_input no_input = {(const uint8_t *)"", 0, (const uint8_t *)"", 0};
     const struct magbelu_output no_output = {(const uint8_t *)"", 0, 0};
     uint64_t none = 0;
     size_t i;
-    if (magbelu_is_null(file, file_len) || magbelu_is_null(inputs, input_count) || magbelu_is_null(outputs, output_count) ||
-        magbelu_is_null(lens, lens_room) || magbelu_is_null(bytes, bytes_room) || magbelu_is_null(error, error_room)) {
+    if (magbelu_is_null(file, file_len) || magbelu_is_null(inputs, input_count) ||
+        magbelu_is_null(outputs, output_count) || magbelu_is_null(lens, lens_room) ||
+        magbelu_is_null(bytes, bytes_room) || magbelu_is_null(error, error_room)) {
         return magbelu_refused_null(error, error_room);
     }
     /* (of a table's own pointers one to no bytes has to be a pointer too) */
@@ -667,9 +713,10 @@ static inline struct magbelu_answer magbelu_run_items(const void *file, size_t f
             return magbelu_refused_null(error, error_room);
         }
     }
-    return magbelu_bytes_run_items(magbelu_read_at(file), file_len, big_endian, inputs != NULL ? inputs : &no_input, input_count,
-                                   outputs != NULL ? outputs : &no_output, output_count, lens != NULL ? lens : &none, lens_room,
-                                   magbelu_write_at(bytes, &none), bytes_room, magbelu_write_at(error, &none), error_room);
+    return magbelu_bytes_run_items(magbelu_read_at(file), file_len, big_endian, inputs != NULL ? inputs : &no_input,
+                                   input_count, outputs != NULL ? outputs : &no_output, output_count,
+                                   lens != NULL ? lens : &none, lens_room, magbelu_write_at(bytes, &none), bytes_room,
+                                   magbelu_write_at(error, &none), error_room);
 }
 
 /* (not for callers) */
@@ -695,7 +742,8 @@ static inline int magbelu_has_null_key(const struct magbelu_tag *tags, size_t ta
  * Opens the plant of a graph file, with what the file feeds, for many calls. `plant` must hold none. The answer has no
  * output; a refusal of the file has a line, as of magbelu_run. Where the plant is no longer needed, free it.
  */
-static inline struct magbelu_answer magbelu_open(struct magbelu_plant *plant, const void *file, size_t file_len, char *error, size_t error_room) {
+static inline struct magbelu_answer magbelu_open(struct magbelu_plant *plant, const void *file, size_t file_len,
+                                                 char *error, size_t error_room) {
     uint64_t none = 0;
     if (plant == NULL || magbelu_is_null(file, file_len) || magbelu_is_null(error, error_room)) {
         return magbelu_refused_null(error, error_room);
@@ -704,10 +752,13 @@ static inline struct magbelu_answer magbelu_open(struct magbelu_plant *plant, co
 }
 
 /* Frees the plant that is held. */
-static inline struct magbelu_reply magbelu_free(struct magbelu_plant *plant) { return plant == NULL ? magbelu_null_reply() : magbelu_bytes_free(plant); }
+static inline struct magbelu_reply magbelu_free(struct magbelu_plant *plant) {
+    return plant == NULL ? magbelu_null_reply() : magbelu_bytes_free(plant);
+}
 
 /* Tells how many bytes an item of a source has: 1, 2 or 4. */
-static inline struct magbelu_reply magbelu_item_size(struct magbelu_plant *plant, const void *source, size_t source_len) {
+static inline struct magbelu_reply magbelu_item_size(struct magbelu_plant *plant, const void *source,
+                                                     size_t source_len) {
     if (plant == NULL || magbelu_is_null(source, source_len)) {
         return magbelu_null_reply();
     }
@@ -718,25 +769,30 @@ static inline struct magbelu_reply magbelu_item_size(struct magbelu_plant *plant
  * Puts the items that raw bytes are at the end of a source's tape, with tags on them (NULL and 0 for none). With bytes
  * that end within an item it is refused 53, and then nothing is fed.
  */
-static inline struct magbelu_reply magbelu_feed(struct magbelu_plant *plant, const void *source, size_t source_len, uint32_t big_endian, const void *bytes,
-                                                size_t len, const struct magbelu_tag *tags, size_t tag_count) {
+static inline struct magbelu_reply magbelu_feed(struct magbelu_plant *plant, const void *source, size_t source_len,
+                                                uint32_t big_endian, const void *bytes, size_t len,
+                                                const struct magbelu_tag *tags, size_t tag_count) {
     const struct magbelu_tag no_tag = {0, 0, (const uint8_t *)"", 0};
-    if (plant == NULL || magbelu_is_null(source, source_len) || magbelu_is_null(bytes, len) || magbelu_has_null_key(tags, tag_count)) {
+    if (plant == NULL || magbelu_is_null(source, source_len) || magbelu_is_null(bytes, len) ||
+        magbelu_has_null_key(tags, tag_count)) {
         return magbelu_null_reply();
     }
-    return magbelu_bytes_feed(plant, magbelu_read_at(source), source_len, big_endian, magbelu_read_at(bytes), len, tags != NULL ? tags : &no_tag, tag_count);
+    return magbelu_bytes_feed(plant, magbelu_read_at(source), source_len, big_endian, magbelu_read_at(bytes), len,
+                              tags != NULL ? tags : &no_tag, tag_count);
 }
 
 /* The same of numbers. Each must be an item of the source's type. */
-static inline struct magbelu_reply magbelu_feed_numbers(struct magbelu_plant *plant, const void *source, size_t source_len, const int64_t *numbers, size_t count,
+static inline struct magbelu_reply magbelu_feed_numbers(struct magbelu_plant *plant, const void *source,
+                                                        size_t source_len, const int64_t *numbers, size_t count,
                                                         const struct magbelu_tag *tags, size_t tag_count) {
     const struct magbelu_tag no_tag = {0, 0, (const uint8_t *)"", 0};
     const int64_t none = 0;
-    if (plant == NULL || magbelu_is_null(source, source_len) || magbelu_is_null(numbers, count) || magbelu_has_null_key(tags, tag_count)) {
+    if (plant == NULL || magbelu_is_null(source, source_len) || magbelu_is_null(numbers, count) ||
+        magbelu_has_null_key(tags, tag_count)) {
         return magbelu_null_reply();
     }
-    return magbelu_bytes_feed_numbers(plant, magbelu_read_at(source), source_len, numbers != NULL ? numbers : &none, count, tags != NULL ? tags : &no_tag,
-                                      tag_count);
+    return magbelu_bytes_feed_numbers(plant, magbelu_read_at(source), source_len, numbers != NULL ? numbers : &none,
+                                      count, tags != NULL ? tags : &no_tag, tag_count);
 }
 
 /* Closes a source's tape: nothing more comes. */
@@ -748,7 +804,8 @@ static inline struct magbelu_reply magbelu_close(struct magbelu_plant *plant, co
 }
 
 /* Sets a block's number, from this item of its first input on, or MAGBELU_NOW. */
-static inline struct magbelu_reply magbelu_set(struct magbelu_plant *plant, const void *block, size_t block_len, uint64_t at, int64_t number) {
+static inline struct magbelu_reply magbelu_set(struct magbelu_plant *plant, const void *block, size_t block_len,
+                                               uint64_t at, int64_t number) {
     if (plant == NULL || magbelu_is_null(block, block_len)) {
         return magbelu_null_reply();
     }
@@ -756,8 +813,8 @@ static inline struct magbelu_reply magbelu_set(struct magbelu_plant *plant, cons
 }
 
 /* Sets a filter's taps, from this item of its input on, or MAGBELU_NOW. */
-static inline struct magbelu_reply magbelu_set_taps(struct magbelu_plant *plant, const void *block, size_t block_len, uint64_t at, const int16_t *taps,
-                                                    size_t count) {
+static inline struct magbelu_reply magbelu_set_taps(struct magbelu_plant *plant, const void *block, size_t block_len,
+                                                    uint64_t at, const int16_t *taps, size_t count) {
     const int16_t none = 0;
     if (plant == NULL || magbelu_is_null(block, block_len) || magbelu_is_null(taps, count)) {
         return magbelu_null_reply();
@@ -766,7 +823,8 @@ static inline struct magbelu_reply magbelu_set_taps(struct magbelu_plant *plant,
 }
 
 /* Does at most `max` firings of a block. */
-static inline struct magbelu_reply magbelu_step(struct magbelu_plant *plant, const void *block, size_t block_len, uint32_t max) {
+static inline struct magbelu_reply magbelu_step(struct magbelu_plant *plant, const void *block, size_t block_len,
+                                                uint32_t max) {
     if (plant == NULL || magbelu_is_null(block, block_len)) {
         return magbelu_null_reply();
     }
@@ -775,21 +833,25 @@ static inline struct magbelu_reply magbelu_step(struct magbelu_plant *plant, con
 
 /* Steps all blocks until none can act. The status is 0 if all are done, and else 3: a source is open, or the graph
  * stalled. */
-static inline struct magbelu_reply magbelu_settle(struct magbelu_plant *plant) { return plant == NULL ? magbelu_null_reply() : magbelu_bytes_settle(plant); }
+static inline struct magbelu_reply magbelu_settle(struct magbelu_plant *plant) {
+    return plant == NULL ? magbelu_null_reply() : magbelu_bytes_settle(plant);
+}
 
 /*
  * Shows what a sink holds from item `from` on, at most `max` items: their bytes in `bytes`, and for each of their tags
  * a line `@OFFSET:KEY=VALUE/SOURCE` in `tags`. A sink that holds fewer than `from` items is refused 31.
  */
-static inline struct magbelu_piece magbelu_read(struct magbelu_plant *plant, const void *sink, size_t sink_len, uint64_t from, uint64_t max, uint32_t big_endian,
-                                                void *bytes, size_t bytes_room, char *tags, size_t tags_room) {
+static inline struct magbelu_piece magbelu_read(struct magbelu_plant *plant, const void *sink, size_t sink_len,
+                                                uint64_t from, uint64_t max, uint32_t big_endian, void *bytes,
+                                                size_t bytes_room, char *tags, size_t tags_room) {
     uint64_t none = 0, more = 0;
-    if (plant == NULL || magbelu_is_null(sink, sink_len) || magbelu_is_null(bytes, bytes_room) || magbelu_is_null(tags, tags_room)) {
+    if (plant == NULL || magbelu_is_null(sink, sink_len) || magbelu_is_null(bytes, bytes_room) ||
+        magbelu_is_null(tags, tags_room)) {
         struct magbelu_piece piece = {1, MAGBELU_NULL, 0, 0, 0, 0};
         return piece;
     }
-    return magbelu_bytes_read(plant, magbelu_read_at(sink), sink_len, from, max, big_endian, magbelu_write_at(bytes, &none), bytes_room,
-                              magbelu_write_at(tags, &more), tags_room);
+    return magbelu_bytes_read(plant, magbelu_read_at(sink), sink_len, from, max, big_endian,
+                              magbelu_write_at(bytes, &none), bytes_room, magbelu_write_at(tags, &more), tags_room);
 }
 
 /*
@@ -812,18 +874,21 @@ static inline struct magbelu_reply magbelu_block_count(struct magbelu_plant *pla
  * Tells of the block of this number what it is, with its name in `name` and that of its kind in `kind`, each where it
  * fits. Neither has a 0 at its end. A number that no block has is refused 20.
  */
-static inline struct magbelu_listed magbelu_block(struct magbelu_plant *plant, uint32_t number, char *name, size_t name_room, char *kind, size_t kind_room) {
+static inline struct magbelu_listed magbelu_block(struct magbelu_plant *plant, uint32_t number, char *name,
+                                                  size_t name_room, char *kind, size_t kind_room) {
     uint64_t none = 0, more = 0;
     if (plant == NULL || magbelu_is_null(name, name_room) || magbelu_is_null(kind, kind_room)) {
         struct magbelu_listed listed = {1, MAGBELU_NULL, 0, 0, 0, 0, 0, 0, 0};
         return listed;
     }
-    return magbelu_bytes_block(plant, number, magbelu_write_at(name, &none), name_room, magbelu_write_at(kind, &more), kind_room);
+    return magbelu_bytes_block(plant, number, magbelu_write_at(name, &none), name_room, magbelu_write_at(kind, &more),
+                               kind_room);
 }
 
 /* Tells how many connections the graph has. If all of them fit into the table, they are there, in the order of the
  * file. */
-static inline struct magbelu_reply magbelu_connections(struct magbelu_plant *plant, struct magbelu_connection *connections, size_t room) {
+static inline struct magbelu_reply magbelu_connections(struct magbelu_plant *plant,
+                                                       struct magbelu_connection *connections, size_t room) {
     struct magbelu_connection none;
     if (plant == NULL || magbelu_is_null(connections, room)) {
         return magbelu_null_reply();
@@ -835,7 +900,8 @@ static inline struct magbelu_reply magbelu_connections(struct magbelu_plant *pla
  * Draws the graph, as `flow draw --format FORMAT FILE` does. If the text in the format fits, it is in `output`;
  * Graphviz's `dot` or Mermaid makes a picture of it. It has no 0 at its end, and the answer no line.
  */
-static inline struct magbelu_answer magbelu_draw(struct magbelu_plant *plant, uint32_t format, char *output, size_t output_room) {
+static inline struct magbelu_answer magbelu_draw(struct magbelu_plant *plant, uint32_t format, char *output,
+                                                 size_t output_room) {
     uint64_t none = 0;
     if (plant == NULL || magbelu_is_null(output, output_room)) {
         struct magbelu_answer answer = {1, MAGBELU_NULL, 0, 0};
@@ -858,7 +924,8 @@ static inline struct magbelu_reply magbelu_rooms(struct magbelu_plant *plant, ui
 
 /* Tells what of the block of this number may be set. If its own taps fit, they are in `taps`. A number that no block
  * has is refused 20. */
-static inline struct magbelu_block_setting magbelu_setting(struct magbelu_plant *plant, uint32_t number, int16_t *taps, size_t room) {
+static inline struct magbelu_block_setting magbelu_setting(struct magbelu_plant *plant, uint32_t number, int16_t *taps,
+                                                           size_t room) {
     int16_t none = 0;
     if (plant == NULL || magbelu_is_null(taps, room)) {
         struct magbelu_block_setting setting = {1, MAGBELU_NULL, 0, 0, 0, 0, 0};
@@ -871,7 +938,8 @@ static inline struct magbelu_block_setting magbelu_setting(struct magbelu_plant 
  * Tells what a firing of the block of this number takes of each connected input, in `takes` where all of them fit, and
  * gives on each output. A number that no block has is refused 20.
  */
-static inline struct magbelu_block_rates magbelu_rates(struct magbelu_plant *plant, uint32_t number, uint64_t *takes, size_t room) {
+static inline struct magbelu_block_rates magbelu_rates(struct magbelu_plant *plant, uint32_t number, uint64_t *takes,
+                                                       size_t room) {
     uint64_t none = 0;
     if (plant == NULL || magbelu_is_null(takes, room)) {
         struct magbelu_block_rates rates = {1, MAGBELU_NULL, 0, 0, 0, 0};
@@ -904,14 +972,16 @@ static inline struct magbelu_slicing magbelu_null_slicing(void) {
  * sink that keeps its items. A slice gives the items of the whole run, and with `tags` other than 0 its tags too, for
  * which it may have to overlap further.
  */
-static inline struct magbelu_slicing magbelu_slices(struct magbelu_plant *plant, uint32_t tags, struct magbelu_cut_source *sources, size_t source_room,
+static inline struct magbelu_slicing magbelu_slices(struct magbelu_plant *plant, uint32_t tags,
+                                                    struct magbelu_cut_source *sources, size_t source_room,
                                                     struct magbelu_cut_sink *sinks, size_t sink_room) {
     struct magbelu_cut_source no_source = {0, 0, 0};
     struct magbelu_cut_sink no_sink = {0, 0, 0};
     if (plant == NULL || magbelu_is_null(sources, source_room) || magbelu_is_null(sinks, sink_room)) {
         return magbelu_null_slicing();
     }
-    return magbelu_bytes_slices(plant, tags, sources != NULL ? sources : &no_source, source_room, sinks != NULL ? sinks : &no_sink, sink_room);
+    return magbelu_bytes_slices(plant, tags, sources != NULL ? sources : &no_source, source_room,
+                                sinks != NULL ? sinks : &no_sink, sink_room);
 }
 
 /*
@@ -923,7 +993,8 @@ static inline struct magbelu_slicing magbelu_slices(struct magbelu_plant *plant,
  * that comes to a sink less by `stands - drop`. An iteration within the first overlap, or behind the 2^46th, is refused
  * with MAGBELU_NO_CUT.
  */
-static inline struct magbelu_slicing magbelu_slice(struct magbelu_plant *plant, uint32_t tags, uint64_t begins, struct magbelu_cut_part *parts, size_t part_room) {
+static inline struct magbelu_slicing magbelu_slice(struct magbelu_plant *plant, uint32_t tags, uint64_t begins,
+                                                   struct magbelu_cut_part *parts, size_t part_room) {
     struct magbelu_cut_part no_part = {0, 0, 0};
     if (plant == NULL || magbelu_is_null(parts, part_room)) {
         return magbelu_null_slicing();
@@ -932,19 +1003,23 @@ static inline struct magbelu_slicing magbelu_slice(struct magbelu_plant *plant, 
 }
 
 /* (not for callers) */
-static inline struct magbelu_plant *magbelu_streaming(struct magbelu_stream *stream) { return stream != NULL ? &stream->plant : NULL; }
+static inline struct magbelu_plant *magbelu_streaming(struct magbelu_stream *stream) {
+    return stream != NULL ? &stream->plant : NULL;
+}
 
 /*
  * Opens the plant of a graph file so that it streams, as magbelu_open opens one. The calls below are those of a plant,
  * but for magbelu_stream_drain and magbelu_stream_levels; where they speak of a tape, it is all that the source was
  * fed.
  */
-static inline struct magbelu_answer magbelu_stream_open(struct magbelu_stream *stream, const void *file, size_t file_len, char *error, size_t error_room) {
+static inline struct magbelu_answer magbelu_stream_open(struct magbelu_stream *stream, const void *file,
+                                                        size_t file_len, char *error, size_t error_room) {
     uint64_t none = 0;
     if (stream == NULL || magbelu_is_null(file, file_len) || magbelu_is_null(error, error_room)) {
         return magbelu_refused_null(error, error_room);
     }
-    return magbelu_bytes_open_stream(&stream->plant, magbelu_read_at(file), file_len, magbelu_write_at(error, &none), error_room);
+    return magbelu_bytes_open_stream(&stream->plant, magbelu_read_at(file), file_len, magbelu_write_at(error, &none),
+                                     error_room);
 }
 
 /*
@@ -954,56 +1029,71 @@ static inline struct magbelu_answer magbelu_stream_open(struct magbelu_stream *s
  * file that magbelu_stream_open refuses is refused alike, one whose graph is not cut with MAGBELU_NO_SLICES, and more
  * than 2^46 iterations with MAGBELU_NO_CUT: these two have no line.
  */
-static inline struct magbelu_answer magbelu_stream_open_at(struct magbelu_stream *stream, const void *file, size_t file_len, uint64_t iterations, char *error,
+static inline struct magbelu_answer magbelu_stream_open_at(struct magbelu_stream *stream, const void *file,
+                                                           size_t file_len, uint64_t iterations, char *error,
                                                            size_t error_room) {
     uint64_t none = 0;
     if (stream == NULL || magbelu_is_null(file, file_len) || magbelu_is_null(error, error_room)) {
         return magbelu_refused_null(error, error_room);
     }
-    return magbelu_bytes_open_stream_at(&stream->plant, magbelu_read_at(file), file_len, iterations, magbelu_write_at(error, &none), error_room);
+    return magbelu_bytes_open_stream_at(&stream->plant, magbelu_read_at(file), file_len, iterations,
+                                        magbelu_write_at(error, &none), error_room);
 }
 
-static inline struct magbelu_reply magbelu_stream_free(struct magbelu_stream *stream) { return magbelu_free(magbelu_streaming(stream)); }
+static inline struct magbelu_reply magbelu_stream_free(struct magbelu_stream *stream) {
+    return magbelu_free(magbelu_streaming(stream));
+}
 
-static inline struct magbelu_reply magbelu_stream_item_size(struct magbelu_stream *stream, const void *source, size_t source_len) {
+static inline struct magbelu_reply magbelu_stream_item_size(struct magbelu_stream *stream, const void *source,
+                                                            size_t source_len) {
     return magbelu_item_size(magbelu_streaming(stream), source, source_len);
 }
 
-static inline struct magbelu_reply magbelu_stream_feed(struct magbelu_stream *stream, const void *source, size_t source_len, uint32_t big_endian,
-                                                       const void *bytes, size_t len, const struct magbelu_tag *tags, size_t tag_count) {
+static inline struct magbelu_reply magbelu_stream_feed(struct magbelu_stream *stream, const void *source,
+                                                       size_t source_len, uint32_t big_endian, const void *bytes,
+                                                       size_t len, const struct magbelu_tag *tags, size_t tag_count) {
     return magbelu_feed(magbelu_streaming(stream), source, source_len, big_endian, bytes, len, tags, tag_count);
 }
 
-static inline struct magbelu_reply magbelu_stream_feed_numbers(struct magbelu_stream *stream, const void *source, size_t source_len, const int64_t *numbers,
-                                                               size_t count, const struct magbelu_tag *tags, size_t tag_count) {
+static inline struct magbelu_reply magbelu_stream_feed_numbers(struct magbelu_stream *stream, const void *source,
+                                                               size_t source_len, const int64_t *numbers, size_t count,
+                                                               const struct magbelu_tag *tags, size_t tag_count) {
     return magbelu_feed_numbers(magbelu_streaming(stream), source, source_len, numbers, count, tags, tag_count);
 }
 
-static inline struct magbelu_reply magbelu_stream_close(struct magbelu_stream *stream, const void *source, size_t source_len) {
+static inline struct magbelu_reply magbelu_stream_close(struct magbelu_stream *stream, const void *source,
+                                                        size_t source_len) {
     return magbelu_close(magbelu_streaming(stream), source, source_len);
 }
 
-static inline struct magbelu_reply magbelu_stream_set(struct magbelu_stream *stream, const void *block, size_t block_len, uint64_t at, int64_t number) {
+static inline struct magbelu_reply magbelu_stream_set(struct magbelu_stream *stream, const void *block,
+                                                      size_t block_len, uint64_t at, int64_t number) {
     return magbelu_set(magbelu_streaming(stream), block, block_len, at, number);
 }
 
-static inline struct magbelu_reply magbelu_stream_set_taps(struct magbelu_stream *stream, const void *block, size_t block_len, uint64_t at, const int16_t *taps,
+static inline struct magbelu_reply magbelu_stream_set_taps(struct magbelu_stream *stream, const void *block,
+                                                           size_t block_len, uint64_t at, const int16_t *taps,
                                                            size_t count) {
     return magbelu_set_taps(magbelu_streaming(stream), block, block_len, at, taps, count);
 }
 
-static inline struct magbelu_reply magbelu_stream_step(struct magbelu_stream *stream, const void *block, size_t block_len, uint32_t max) {
+static inline struct magbelu_reply magbelu_stream_step(struct magbelu_stream *stream, const void *block,
+                                                       size_t block_len, uint32_t max) {
     return magbelu_step(magbelu_streaming(stream), block, block_len, max);
 }
 
-static inline struct magbelu_reply magbelu_stream_settle(struct magbelu_stream *stream) { return magbelu_settle(magbelu_streaming(stream)); }
+static inline struct magbelu_reply magbelu_stream_settle(struct magbelu_stream *stream) {
+    return magbelu_settle(magbelu_streaming(stream));
+}
 
-static inline struct magbelu_reply magbelu_stream_need(struct magbelu_stream *stream, const void *block, size_t block_len) {
+static inline struct magbelu_reply magbelu_stream_need(struct magbelu_stream *stream, const void *block,
+                                                       size_t block_len) {
     return magbelu_need(magbelu_streaming(stream), block, block_len);
 }
 
 /* Tells how far a block is. What is set at items from `taken` on is in force. */
-static inline struct magbelu_levels magbelu_stream_levels(struct magbelu_stream *stream, const void *block, size_t block_len) {
+static inline struct magbelu_levels magbelu_stream_levels(struct magbelu_stream *stream, const void *block,
+                                                          size_t block_len) {
     if (stream == NULL || magbelu_is_null(block, block_len)) {
         struct magbelu_levels levels = {1, MAGBELU_NULL, 0, 0, 0};
         return levels;
@@ -1011,18 +1101,22 @@ static inline struct magbelu_levels magbelu_stream_levels(struct magbelu_stream 
     return magbelu_bytes_levels(&stream->plant, magbelu_read_at(block), block_len);
 }
 
-static inline struct magbelu_reply magbelu_stream_block_count(struct magbelu_stream *stream) { return magbelu_block_count(magbelu_streaming(stream)); }
+static inline struct magbelu_reply magbelu_stream_block_count(struct magbelu_stream *stream) {
+    return magbelu_block_count(magbelu_streaming(stream));
+}
 
-static inline struct magbelu_listed magbelu_stream_block(struct magbelu_stream *stream, uint32_t number, char *name, size_t name_room, char *kind,
-                                                         size_t kind_room) {
+static inline struct magbelu_listed magbelu_stream_block(struct magbelu_stream *stream, uint32_t number, char *name,
+                                                         size_t name_room, char *kind, size_t kind_room) {
     return magbelu_block(magbelu_streaming(stream), number, name, name_room, kind, kind_room);
 }
 
-static inline struct magbelu_reply magbelu_stream_connections(struct magbelu_stream *stream, struct magbelu_connection *connections, size_t room) {
+static inline struct magbelu_reply magbelu_stream_connections(struct magbelu_stream *stream,
+                                                              struct magbelu_connection *connections, size_t room) {
     return magbelu_connections(magbelu_streaming(stream), connections, room);
 }
 
-static inline struct magbelu_answer magbelu_stream_draw(struct magbelu_stream *stream, uint32_t format, char *output, size_t output_room) {
+static inline struct magbelu_answer magbelu_stream_draw(struct magbelu_stream *stream, uint32_t format, char *output,
+                                                        size_t output_room) {
     return magbelu_draw(magbelu_streaming(stream), format, output, output_room);
 }
 
@@ -1030,25 +1124,29 @@ static inline struct magbelu_reply magbelu_stream_rooms(struct magbelu_stream *s
     return magbelu_rooms(magbelu_streaming(stream), rooms, room);
 }
 
-static inline struct magbelu_block_setting magbelu_stream_setting(struct magbelu_stream *stream, uint32_t number, int16_t *taps, size_t room) {
+static inline struct magbelu_block_setting magbelu_stream_setting(struct magbelu_stream *stream, uint32_t number,
+    int16_t *taps, size_t room) {
     return magbelu_setting(magbelu_streaming(stream), number, taps, room);
 }
 
-static inline struct magbelu_block_rates magbelu_stream_rates(struct magbelu_stream *stream, uint32_t number, uint64_t *takes, size_t room) {
+static inline struct magbelu_block_rates magbelu_stream_rates(struct magbelu_stream *stream, uint32_t number,
+                                                              uint64_t *takes, size_t room) {
     return magbelu_rates(magbelu_streaming(stream), number, takes, room);
 }
 
-static inline struct magbelu_reply magbelu_stream_firings(struct magbelu_stream *stream, uint32_t *firings, size_t room) {
+static inline struct magbelu_reply magbelu_stream_firings(struct magbelu_stream *stream, uint32_t *firings,
+                                                          size_t room) {
     return magbelu_firings(magbelu_streaming(stream), firings, room);
 }
 
-static inline struct magbelu_slicing magbelu_stream_slices(struct magbelu_stream *stream, uint32_t tags, struct magbelu_cut_source *sources, size_t source_room,
+static inline struct magbelu_slicing magbelu_stream_slices(struct magbelu_stream *stream, uint32_t tags,
+                                                           struct magbelu_cut_source *sources, size_t source_room,
                                                            struct magbelu_cut_sink *sinks, size_t sink_room) {
     return magbelu_slices(magbelu_streaming(stream), tags, sources, source_room, sinks, sink_room);
 }
 
-static inline struct magbelu_slicing magbelu_stream_slice(struct magbelu_stream *stream, uint32_t tags, uint64_t begins, struct magbelu_cut_part *parts,
-                                                          size_t part_room) {
+static inline struct magbelu_slicing magbelu_stream_slice(struct magbelu_stream *stream, uint32_t tags, uint64_t begins,
+                                                          struct magbelu_cut_part *parts, size_t part_room) {
     return magbelu_slice(magbelu_streaming(stream), tags, begins, parts, part_room);
 }
 
@@ -1058,15 +1156,17 @@ static inline struct magbelu_slicing magbelu_stream_slice(struct magbelu_stream 
  * first item that the sink ever took. Where one of the two does not fit, nothing is taken away, and the lengths tell
  * how much room is needed.
  */
-static inline struct magbelu_piece magbelu_stream_drain(struct magbelu_stream *stream, const void *sink, size_t sink_len, uint64_t max, uint32_t big_endian,
-                                                        void *bytes, size_t bytes_room, char *tags, size_t tags_room) {
+static inline struct magbelu_piece magbelu_stream_drain(struct magbelu_stream *stream, const void *sink,
+                                                        size_t sink_len, uint64_t max, uint32_t big_endian, void *bytes,
+                                                        size_t bytes_room, char *tags, size_t tags_room) {
     uint64_t none = 0, more = 0;
-    if (stream == NULL || magbelu_is_null(sink, sink_len) || magbelu_is_null(bytes, bytes_room) || magbelu_is_null(tags, tags_room)) {
+    if (stream == NULL || magbelu_is_null(sink, sink_len) || magbelu_is_null(bytes, bytes_room) ||
+        magbelu_is_null(tags, tags_room)) {
         struct magbelu_piece piece = {1, MAGBELU_NULL, 0, 0, 0, 0};
         return piece;
     }
-    return magbelu_bytes_drain(&stream->plant, magbelu_read_at(sink), sink_len, max, big_endian, magbelu_write_at(bytes, &none), bytes_room,
-                               magbelu_write_at(tags, &more), tags_room);
+    return magbelu_bytes_drain(&stream->plant, magbelu_read_at(sink), sink_len, max, big_endian,
+                               magbelu_write_at(bytes, &none), bytes_room, magbelu_write_at(tags, &more), tags_room);
 }
 
 #ifdef __cplusplus

@@ -33,8 +33,10 @@ namespace magbelu {
  */
 class error : public std::runtime_error {
 public:
-    error(std::uint32_t number, std::string detail, const std::string &text, std::string output = {}, std::optional<std::uint64_t> floor = {})
-        : std::runtime_error(text), number_(number), detail_(std::move(detail)), output_(std::move(output)), floor_(floor) {}
+    error(std::uint32_t number, std::string detail, const std::string &text, std::string output = {},
+          std::optional<std::uint64_t> floor = {})
+        : std::runtime_error(text), number_(number), detail_(std::move(detail)), output_(std::move(output)),
+          floor_(floor) {}
 
     std::uint32_t number() const noexcept { return number_; }
 
@@ -119,7 +121,12 @@ enum class wait : std::uint32_t {
 };
 
 /* What a block does with streams. A sink keeps its items, and a null sink drops them. */
-enum class role : std::uint32_t { work = MAGBELU_WORK, source = MAGBELU_SOURCE, sink = MAGBELU_SINK, null_sink = MAGBELU_NULL_SINK };
+enum class role : std::uint32_t {
+    work = MAGBELU_WORK,
+    source = MAGBELU_SOURCE,
+    sink = MAGBELU_SINK,
+    null_sink = MAGBELU_NULL_SINK
+};
 
 /* The type of items: `std::uint8_t`, `std::int16_t` or `std::int32_t`. */
 enum class item_type : std::uint32_t { bytes = MAGBELU_BYTE, shorts = MAGBELU_SHORT, ints = MAGBELU_INT };
@@ -195,8 +202,8 @@ struct slice_start {
 /* (not for callers) */
 namespace detail {
 
-[[noreturn]] inline void fail(std::uint32_t status, std::uint32_t number, std::string detail, const std::string &text, std::string output = {},
-                              std::optional<std::uint64_t> floor = {}) {
+[[noreturn]] inline void fail(std::uint32_t status, std::uint32_t number, std::string detail, const std::string &text,
+                              std::string output = {}, std::optional<std::uint64_t> floor = {}) {
     if (status == 4) {
         throw out_of_memory(number, std::move(detail), text, std::move(output), floor);
     }
@@ -224,8 +231,10 @@ const Reply &tested(const Reply &reply, std::string_view block) {
     if (reply.number != 0) {
         const std::string concerns = block.empty() ? "" : " " + std::string(block);
         const auto floor = floor_of(reply);
-        const std::string text = with_reason(std::to_string(reply.number) + " " + magbelu_name(reply.number) + concerns, reply.number);
-        fail(reply.status, reply.number, std::string(block), floor ? text + ", which is " + std::to_string(*floor) : text, {}, floor);
+        const std::string text = with_reason(std::to_string(reply.number) + " " + magbelu_name(reply.number) + concerns,
+                                             reply.number);
+        fail(reply.status, reply.number, std::string(block),
+             floor ? text + ", which is " + std::to_string(*floor) : text, {}, floor);
     }
     return reply;
 }
@@ -263,20 +272,25 @@ inline std::string detail_of(const std::string &refusal) {
 
 /* What is said of a refusal of a call that the file of this path goes into: the refusal, and its place in the file, or
  * the reason. */
-inline std::string text_of(std::uint32_t number, const std::string &refusal, std::string_view file, std::string_view path) {
+inline std::string text_of(std::uint32_t number, const std::string &refusal, std::string_view file,
+                           std::string_view path) {
     std::string place, own;
     with_room(
         [&](std::string &output, std::string &room) {
-            return magbelu_explain(path.data(), path.size(), file.data(), file.size(), output.data(), output.size(), room.data(), room.size());
+            return magbelu_explain(path.data(), path.size(), file.data(), file.size(), output.data(), output.size(),
+                                   room.data(), room.size());
         },
         place, own);
-    return place.empty() ? with_reason(refusal, number) : refusal + "\n" + place.substr(0, place.find_last_not_of('\n') + 1);
+    return place.empty() ? with_reason(refusal, number) : refusal + "\n" + place.substr(0,
+        place.find_last_not_of('\n') + 1);
 }
 
 /* Fails with the refusal of a call that the file of this path goes into. */
-[[noreturn]] inline void fail_in(const magbelu_answer &answer, const std::string &line, std::string_view file, std::string_view path, std::string output) {
+[[noreturn]] inline void fail_in(const magbelu_answer &answer, const std::string &line, std::string_view file,
+                                 std::string_view path, std::string output) {
     const std::string refusal = refusal_in(line);
-    fail(answer.status, answer.number, detail_of(refusal), text_of(answer.number, refusal, file, path), std::move(output));
+    fail(answer.status, answer.number, detail_of(refusal), text_of(answer.number, refusal, file, path),
+         std::move(output));
 }
 
 /* The output of a call that a file goes into, which writes a line where it is refused. */
@@ -295,15 +309,18 @@ inline std::vector<tag> tags_of(const std::string &lines) {
     std::vector<tag> tags;
     for (std::size_t at = 0, next; at < lines.size(); at = next + 1) {
         next = std::min(lines.find('\n', at), lines.size());
-        const std::size_t key = lines.find(':', at) + 1, value = lines.find('=', key) + 1, source = lines.find('/', value) + 1;
-        tags.push_back({std::strtoull(&lines[at + 1], nullptr, 10), lines.substr(key, value - key - 1), std::strtoll(&lines[value], nullptr, 10),
+        const std::size_t key = lines.find(':', at) + 1, value = lines.find('=', key) + 1,
+                          source = lines.find('/', value) + 1;
+        tags.push_back({std::strtoull(&lines[at + 1], nullptr, 10), lines.substr(key, value - key - 1),
+                        std::strtoll(&lines[value], nullptr, 10),
                         static_cast<std::uint32_t>(std::strtoul(&lines[source], nullptr, 10))});
     }
     return tags;
 }
 
 template <class Item>
-inline constexpr bool is_item = std::is_same_v<Item, std::uint8_t> || std::is_same_v<Item, std::int16_t> || std::is_same_v<Item, std::int32_t>;
+inline constexpr bool is_item =
+    std::is_same_v<Item, std::uint8_t> || std::is_same_v<Item, std::int16_t> || std::is_same_v<Item, std::int32_t>;
 
 /* The text of a file. One that cannot be read is a `std::system_error`. */
 inline std::string text_in(const std::string &path) {
@@ -317,7 +334,8 @@ inline std::string text_in(const std::string &path) {
 
 inline void same_size(std::size_t wanted, std::size_t size, std::string_view block) {
     if (wanted != size) {
-        throw std::invalid_argument("the items of " + std::string(block) + " have " + std::to_string(wanted) + " bytes, and not " + std::to_string(size));
+        throw std::invalid_argument("the items of " + std::string(block) + " have " + std::to_string(wanted) +
+                                    " bytes, and not " + std::to_string(size));
     }
 }
 
@@ -327,7 +345,8 @@ inline void same_size(std::size_t wanted, std::size_t size, std::string_view blo
 inline std::string check(std::string_view file) {
     return detail::texts(
                [&](std::string &output, std::string &line) {
-                   return magbelu_check(file.data(), file.size(), output.data(), output.size(), line.data(), line.size());
+                   return magbelu_check(file.data(), file.size(), output.data(), output.size(), line.data(),
+                                        line.size());
                },
                file)
         .text;
@@ -346,7 +365,8 @@ inline report run(std::string_view file) {
 inline std::string script(std::string_view file, std::string_view lines) {
     return detail::texts(
                [&](std::string &output, std::string &line) {
-                   return magbelu_script(file.data(), file.size(), lines.data(), lines.size(), output.data(), output.size(), line.data(), line.size());
+                   return magbelu_script(file.data(), file.size(), lines.data(), lines.size(), output.data(),
+                                         output.size(), line.data(), line.size());
                },
                file)
         .text;
@@ -379,27 +399,34 @@ class held {
 public:
     /* Appends items to a source's tape, with tags on them, and gives how many it was fed then. */
     template <class Item>
-    std::uint64_t feed(std::string_view source, const Item *items, std::size_t count, const std::vector<mark> &marks = {}) {
+    std::uint64_t feed(std::string_view source, const Item *items, std::size_t count,
+                       const std::vector<mark> &marks = {}) {
         static_assert(is_item<Item>, "items are std::uint8_t, std::int16_t or std::int32_t");
         same_size(item_size(source), sizeof(Item), source);
         const auto tags = tags_of(marks);
-        return reply(magbelu_feed(plant(), source.data(), source.size(), 0, items, count * sizeof(Item), tags.data(), tags.size()), source);
+        return reply(magbelu_feed(plant(), source.data(), source.size(), 0, items, count * sizeof(Item), tags.data(),
+                                  tags.size()), source);
     }
 
     /* The same of a container that has its items one behind the other: a vector, an array. */
     template <class Items>
-    auto feed(std::string_view source, const Items &items, const std::vector<mark> &marks = {}) -> decltype(std::data(items), std::uint64_t()) {
+    auto feed(std::string_view source, const Items &items,
+              const std::vector<mark> &marks = {}) -> decltype(std::data(items), std::uint64_t()) {
         return feed(source, std::data(items), std::size(items), marks);
     }
 
     /* The same of numbers. Each must be an item of the source. */
-    std::uint64_t feed(std::string_view source, std::initializer_list<std::int64_t> numbers, const std::vector<mark> &marks = {}) {
+    std::uint64_t feed(std::string_view source, std::initializer_list<std::int64_t> numbers,
+                       const std::vector<mark> &marks = {}) {
         const auto tags = tags_of(marks);
-        return reply(magbelu_feed_numbers(plant(), source.data(), source.size(), numbers.begin(), numbers.size(), tags.data(), tags.size()), source);
+        return reply(magbelu_feed_numbers(plant(), source.data(), source.size(), numbers.begin(), numbers.size(),
+                                          tags.data(), tags.size()), source);
     }
 
     /* Closes a source's tape, and gives how many items it was fed. */
-    std::uint64_t close(std::string_view source) { return reply(magbelu_close(plant(), source.data(), source.size()), source); }
+    std::uint64_t close(std::string_view source) {
+        return reply(magbelu_close(plant(), source.data(), source.size()), source);
+    }
 
     /* Sets a block's number, from this item of its first input on or from the first that it has not taken, and gives
      * that item. */
@@ -413,7 +440,8 @@ public:
     }
 
     /* The same of taps in braces. (One number in braces would be no list.) */
-    std::uint64_t set(std::string_view block, std::initializer_list<std::int16_t> taps, std::uint64_t at = MAGBELU_NOW) {
+    std::uint64_t set(std::string_view block, std::initializer_list<std::int16_t> taps,
+                      std::uint64_t at = MAGBELU_NOW) {
         return set(block, std::vector<std::int16_t>(taps), at);
     }
 
@@ -428,7 +456,9 @@ public:
     bool settle() { return tested(magbelu_settle(plant()), "").status == 0; }
 
     /* What a block waits for. */
-    wait need(std::string_view block) { return static_cast<wait>(tested(magbelu_need(plant(), block.data(), block.size()), block).what); }
+    wait need(std::string_view block) {
+        return static_cast<wait>(tested(magbelu_need(plant(), block.data(), block.size()), block).what);
+    }
 
     /* Whether a graph is held. After it was moved away there is none, and each call is refused. */
     bool is_open() const noexcept { return stream_.plant.is_open; }
@@ -444,12 +474,16 @@ public:
 
     /* The connections, in the order of the file. They have the numbers of their blocks. */
     std::vector<magbelu_connection> connections() {
-        return table<magbelu_connection>([&](magbelu_connection *at, std::size_t room) { return reply(magbelu_connections(plant(), at, room), ""); });
+        return table<magbelu_connection>([&](magbelu_connection *at, std::size_t room) {
+            return reply(magbelu_connections(plant(), at, room), "");
+        });
     }
 
     /* How many items the buffer behind each connection has room for. */
     std::vector<std::uint64_t> rooms() {
-        return table<std::uint64_t>([&](std::uint64_t *at, std::size_t room) { return reply(magbelu_rooms(plant(), at, room), ""); });
+        return table<std::uint64_t>([&](std::uint64_t *at, std::size_t room) {
+            return reply(magbelu_rooms(plant(), at, room), "");
+        });
     }
 
     /* What of the block of a number may be set. */
@@ -499,7 +533,8 @@ public:
     std::string draw(drawing format = drawing::dot) {
         std::string text(4096, '\0');
         for (;;) {
-            const auto got = tested(magbelu_draw(plant(), static_cast<std::uint32_t>(format), text.data(), text.size()), "");
+            const auto got = tested(magbelu_draw(plant(), static_cast<std::uint32_t>(format), text.data(), text.size()),
+                                    "");
             const bool fits = got.output_len <= text.size();
             text.resize(got.output_len);
             if (fits) {
@@ -514,7 +549,8 @@ public:
         slice_plan plan{};
         for (;;) {
             const magbelu_slicing got =
-                tested_slicing(magbelu_slices(plant(), tags, plan.sources.data(), plan.sources.size(), plan.sinks.data(), plan.sinks.size()));
+                tested_slicing(magbelu_slices(plant(), tags, plan.sources.data(), plan.sources.size(),
+                                              plan.sinks.data(), plan.sinks.size()));
             const bool fits = got.source_count == plan.sources.size() && got.sink_count == plan.sinks.size();
             plan.overlap = got.iterations;
             plan.counts = got.block;
@@ -530,7 +566,8 @@ public:
     slice_start slice(std::uint64_t begins, bool tags = false) {
         slice_start start{};
         for (;;) {
-            const magbelu_slicing got = tested_slicing(magbelu_slice(plant(), tags, begins, start.parts.data(), start.parts.size()));
+            const magbelu_slicing got = tested_slicing(magbelu_slice(plant(), tags, begins, start.parts.data(),
+                                                                     start.parts.size()));
             const bool fits = got.sink_count == start.parts.size();
             start.leaves_out = got.iterations;
             start.parts.resize(got.sink_count);
@@ -541,7 +578,9 @@ public:
     }
 
     /* How many bytes an item of a source has. */
-    std::size_t item_size(std::string_view source) { return static_cast<std::size_t>(reply(magbelu_item_size(plant(), source.data(), source.size()), source)); }
+    std::size_t item_size(std::string_view source) {
+        return static_cast<std::size_t>(reply(magbelu_item_size(plant(), source.data(), source.size()), source));
+    }
 
 protected:
     magbelu_stream stream_ = MAGBELU_NO_STREAM;
@@ -563,7 +602,8 @@ protected:
     template <class Open>
     void open(Open open, std::string_view file, std::string_view path) {
         std::string output, line;
-        const magbelu_answer answer = with_room([&](std::string &, std::string &room) { return open(room.data(), room.size()); }, output, line);
+        const magbelu_answer answer = with_room(
+            [&](std::string &, std::string &room) { return open(room.data(), room.size()); }, output, line);
         if (line.empty()) {
             /* (of a graph that is not cut there is no line) */
             tested(answer, "");
@@ -579,12 +619,14 @@ private:
     block block_at(std::uint32_t number) {
         std::string name(64, '\0'), kind(64, '\0');
         for (;;) {
-            const auto got = tested(magbelu_block(plant(), number, name.data(), name.size(), kind.data(), kind.size()), "");
+            const auto got = tested(magbelu_block(plant(), number, name.data(), name.size(), kind.data(), kind.size()),
+                                    "");
             const bool fits = got.name_len <= name.size() && got.kind_len <= kind.size();
             name.resize(got.name_len);
             kind.resize(got.kind_len);
             if (fits) {
-                return {std::move(name), std::move(kind), static_cast<role>(got.role), got.input_count, static_cast<item_type>(got.input_type), got.output_count,
+                return {std::move(name), std::move(kind), static_cast<role>(got.role), got.input_count,
+                        static_cast<item_type>(got.input_type), got.output_count,
                         static_cast<item_type>(got.output_type)};
             }
         }
@@ -629,7 +671,8 @@ class graph : public detail::held {
 public:
     /* The graph of a graph file's text, which is called `path` where it is refused. */
     explicit graph(std::string_view file, std::string_view path = "<graph>") {
-        open([&](char *line, std::size_t room) { return magbelu_open(plant(), file.data(), file.size(), line, room); }, file, path);
+        open([&](char *line, std::size_t room) { return magbelu_open(plant(), file.data(), file.size(), line, room); },
+             file, path);
     }
 
     /* The graph of a graph file. One that cannot be read is a `std::system_error`. */
@@ -644,7 +687,8 @@ public:
         piece<Item> got{std::vector<Item>(static_cast<std::size_t>(std::min(max, all.held - from))), {}, all.held};
         const std::size_t len = got.items.size() * sizeof(Item);
         std::string lines(1024, '\0');
-        magbelu_piece shown = read_into(sink, from, got.items.size(), got.items.data(), len, lines.data(), lines.size());
+        magbelu_piece shown = read_into(sink, from, got.items.size(), got.items.data(), len, lines.data(),
+                                        lines.size());
         if (shown.tags_len > lines.size()) {
             lines.resize(shown.tags_len);
             shown = read_into(sink, from, got.items.size(), got.items.data(), len, lines.data(), lines.size());
@@ -655,8 +699,10 @@ public:
     }
 
 private:
-    magbelu_piece read_into(std::string_view sink, std::uint64_t from, std::uint64_t max, void *bytes, std::size_t bytes_room, char *tags, std::size_t tags_room) {
-        return detail::tested(magbelu_read(plant(), sink.data(), sink.size(), from, max, 0, bytes, bytes_room, tags, tags_room), sink);
+    magbelu_piece read_into(std::string_view sink, std::uint64_t from, std::uint64_t max, void *bytes,
+                            std::size_t bytes_room, char *tags, std::size_t tags_room) {
+        return detail::tested(magbelu_read(plant(), sink.data(), sink.size(), from, max, 0, bytes, bytes_room, tags,
+                                           tags_room), sink);
     }
 };
 
@@ -666,7 +712,11 @@ class stream : public detail::held {
 public:
     /* The graph of a graph file's text, which is called `path` where it is refused. */
     explicit stream(std::string_view file, std::string_view path = "<graph>") {
-        open([&](char *line, std::size_t room) { return magbelu_stream_open(&stream_, file.data(), file.size(), line, room); }, file, path);
+        open(
+            [&](char *line, std::size_t room) {
+                return magbelu_stream_open(&stream_, file.data(), file.size(), line, room);
+            },
+            file, path);
     }
 
     /* The graph of a graph file. One that cannot be read is a `std::system_error`. */
@@ -674,7 +724,9 @@ public:
 
     /* The graph for a slice that leaves out so many iterations of each tape: each block goes on where it stands after
      * these, and nothing is fed. */
-    static stream at(std::uint64_t leaves_out, std::string_view file, std::string_view path = "<graph>") { return stream(leaves_out, file, path); }
+    static stream at(std::uint64_t leaves_out, std::string_view file, std::string_view path = "<graph>") {
+        return stream(leaves_out, file, path);
+    }
 
     /* How far a block is. */
     block_levels levels(std::string_view block) {
@@ -709,11 +761,17 @@ public:
 
 private:
     stream(std::uint64_t leaves_out, std::string_view file, std::string_view path) {
-        open([&](char *line, std::size_t room) { return magbelu_stream_open_at(&stream_, file.data(), file.size(), leaves_out, line, room); }, file, path);
+        open(
+            [&](char *line, std::size_t room) {
+                return magbelu_stream_open_at(&stream_, file.data(), file.size(), leaves_out, line, room);
+            },
+            file, path);
     }
 
-    magbelu_piece drain_into(std::string_view sink, std::uint64_t max, void *bytes, std::size_t bytes_room, char *tags, std::size_t tags_room) {
-        return detail::tested(magbelu_stream_drain(&stream_, sink.data(), sink.size(), max, 0, bytes, bytes_room, tags, tags_room), sink);
+    magbelu_piece drain_into(std::string_view sink, std::uint64_t max, void *bytes, std::size_t bytes_room, char *tags,
+                             std::size_t tags_room) {
+        return detail::tested(magbelu_stream_drain(&stream_, sink.data(), sink.size(), max, 0, bytes, bytes_room, tags,
+                                                   tags_room), sink);
     }
 };
 

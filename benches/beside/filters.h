@@ -62,7 +62,8 @@ static inline void store(__m256i even, __m256i odd, int16_t *z) {
 
 static inline void store_light(struct sums sums, int16_t *z) {
     const __m256i half = _mm256_set1_epi32(1 << (SHIFT - 1));
-    store(_mm256_srai_epi32(_mm256_add_epi32(sums.even, half), SHIFT), _mm256_srai_epi32(_mm256_add_epi32(sums.odd, half), SHIFT), z);
+    store(_mm256_srai_epi32(_mm256_add_epi32(sums.even, half), SHIFT),
+          _mm256_srai_epi32(_mm256_add_epi32(sums.odd, half), SHIFT), z);
 }
 
 /* The sums 256 a + b over 2^SHIFT, rounded. With b + half = 256 t + r and r from 0 to 255 that is a + t over 2^(SHIFT -

@@ -95,7 +95,9 @@ LOOP(diff_encoder, uint8_t, uint8_t, unsigned sum = 0; for (size_t n = 0; n < co
 })
 
 /* Registers whose bits in `p` are summed, and in `q` kept. */
-static inline unsigned summed(unsigned word, int mask) { return (unsigned)__builtin_popcount(word & (unsigned)mask) & 1; }
+static inline unsigned summed(unsigned word, int mask) {
+    return (unsigned)__builtin_popcount(word & (unsigned)mask) & 1;
+}
 
 LOOP(scrambler, uint8_t, uint8_t, unsigned word = 1; for (size_t n = 0; n < count; n++) {
     const unsigned bit = (x[n] ^ summed(word, p)) & 1;

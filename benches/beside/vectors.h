@@ -18,7 +18,8 @@ static void make_reals(void) {
     }
 }
 
-LOOP(volk_fir, float, float, for (size_t n = 0; n < count; n++) { volk_32f_x2_dot_prod_32f(z + n, reals + n, others, (unsigned)p); })
+LOOP(volk_fir, float, float,
+     for (size_t n = 0; n < count; n++) { volk_32f_x2_dot_prod_32f(z + n, reals + n, others, (unsigned)p); })
 LOOP(volk_add, float, float, volk_32f_x2_add_32f(z, reals, others, (unsigned)count);)
 LOOP(volk_multiply, float, float, volk_32f_x2_multiply_32f(z, reals, others, (unsigned)count);)
 LOOP(volk_multiply_const, float, float, volk_32f_s32f_multiply_32f(z, reals, (float)p, (unsigned)count);)

@@ -57,12 +57,14 @@ static struct text read_file(const char *path) {
 static int end(struct magbelu_answer answer, const char *output, const char *error) {
     fwrite(output, 1, answer.output_len, stdout);
     fwrite(error, 1, answer.error_len, stderr);
-    must((answer.number == 0) == (answer.status == 0 || answer.status == 3), "a number without a refusal, or none with one");
+    must((answer.number == 0) == (answer.status == 0 || answer.status == 3),
+         "a number without a refusal, or none with one");
     must((answer.number == 0) == (answer.error_len == 0), "a line without a refusal, or none with one");
     return (int)answer.status;
 }
 
-static struct magbelu_answer ask(const char *what, struct text file, struct text lines, char *output, size_t output_room, char *error, size_t error_room) {
+static struct magbelu_answer ask(const char *what, struct text file, struct text lines, char *output,
+                                 size_t output_room, char *error, size_t error_room) {
     if (strcmp(what, "check") == 0) {
         return magbelu_check(file.at, file.len, output, output_room, error, error_room);
     }
@@ -132,10 +134,11 @@ static int items(int count, char **words) {
             paths[output_count++] = path + 1;
         }
     }
-    answer = magbelu_run_items(file.at, file.len, big_endian, inputs, input_count, outputs, output_count, NULL, 0, NULL, 0, error, sizeof error);
+    answer = magbelu_run_items(file.at, file.len, big_endian, inputs, input_count, outputs, output_count, NULL, 0, NULL,
+                               0, error, sizeof error);
     bytes = room_for(answer.output_len);
-    answer = magbelu_run_items(file.at, file.len, big_endian, inputs, input_count, outputs, output_count, lens, MOST, bytes, answer.output_len, error,
-                               sizeof error);
+    answer = magbelu_run_items(file.at, file.len, big_endian, inputs, input_count, outputs, output_count, lens, MOST,
+                               bytes, answer.output_len, error, sizeof error);
     for (i = 0; i < output_count && answer.number == 0; i++) {
         FILE *output = fopen(paths[i], "wb");
         must(output != NULL && place + lens[i] <= answer.output_len, "the lengths of the outputs");
@@ -158,13 +161,15 @@ const char chain[] = "block = [{ name = \"src\", kind = \"vector_source\", type 
                      "{ name = \"out\", kind = \"vector_sink\", type = \"short\" }]\n"
                      "connect = [{ from = \"src\", to = \"add\" }, { from = \"add\", to = \"out\" }]\n";
 
-void is(struct magbelu_answer answer, uint32_t status, uint32_t number, size_t output_len, const char *error, const char *line) {
+void is(struct magbelu_answer answer, uint32_t status, uint32_t number, size_t output_len, const char *error,
+        const char *line) {
     must(answer.status == status && answer.number == number && answer.output_len == output_len, line);
     must(answer.error_len == strlen(line), line);
     must(error == NULL || memcmp(error, line, strlen(line)) == 0, line);
 }
 
-void replied(struct magbelu_reply reply, uint32_t status, uint32_t number, uint32_t what, uint64_t value, const char *saying) {
+void replied(struct magbelu_reply reply, uint32_t status, uint32_t number, uint32_t what, uint64_t value,
+             const char *saying) {
     must(reply.status == status && reply.number == number && reply.what == what && reply.value == value, saying);
 }
 
@@ -188,13 +193,16 @@ static void explained(char *text, size_t text_room, char *error, size_t error_ro
     /* A feed that is refused. */
     memcpy(fed, chain, sizeof chain - 1);
     memcpy(fed + sizeof chain - 1, feed, sizeof feed - 1);
-    is(magbelu_explain("a", 1, fed, sizeof fed, text, text_room, error, error_room), 1, 24, 155, error, "flow: refused 24 ItemRange feed 0\n");
+    is(magbelu_explain("a", 1, fed, sizeof fed, text, text_room, error, error_room), 1, 24, 155, error,
+       "flow: refused 24 ItemRange feed 0\n");
     must(memcmp(text, " --> a:4:36\n", 12) == 0, "the place of an item");
     /* Files that are not refused. */
     is(magbelu_explain("a", 1, chain, sizeof chain - 1, text, text_room, error, error_room), 0, 0, 0, NULL, "");
     is(magbelu_explain(NULL, 0, NULL, 0, NULL, 0, NULL, 0), 0, 0, 0, NULL, "");
-    is(magbelu_explain(NULL, 1, file, len, text, text_room, error, error_room), 1, 54, 0, error, "magbelu: refused 54 Null\n");
-    is(magbelu_explain("a", 1, NULL, 1, text, text_room, error, error_room), 1, 54, 0, error, "magbelu: refused 54 Null\n");
+    is(magbelu_explain(NULL, 1, file, len, text, text_room, error, error_room), 1, 54, 0, error,
+       "magbelu: refused 54 Null\n");
+    is(magbelu_explain("a", 1, NULL, 1, text, text_room, error, error_room), 1, 54, 0, error,
+       "magbelu: refused 54 Null\n");
 }
 
 /* A file is refused at a word, as places count: lines and columns from 1, in characters. */
@@ -230,7 +238,8 @@ static void placed(void) {
     /* Without room, and with less than is needed. */
     must(magbelu_place(file, len, NULL, 0).why_len == reason_len, "a reason without room");
     why[0] = '-';
-    must(magbelu_place(file, len, why, reason_len - 1).why_len == reason_len && why[0] == '-', "a reason that does not fit was written");
+    must(magbelu_place(file, len, why, reason_len - 1).why_len == reason_len && why[0] == '-',
+         "a reason that does not fit was written");
     /* Files that are not refused, and NULL. */
     nowhere(magbelu_place(chain, sizeof chain - 1, why, sizeof why), 0, 0, "no place");
     nowhere(magbelu_place(NULL, 0, NULL, 0), 0, 0, "no place in no file");
@@ -254,7 +263,8 @@ static void wrong(void) {
     is(magbelu_check(chain, len, NULL, 1, error, sizeof error), 1, 54, 0, error, null_line);
     is(magbelu_run(chain, len, text, sizeof text, NULL, 1), 1, 54, 0, NULL, null_line);
     is(magbelu_script(chain, len, NULL, 1, text, sizeof text, error, sizeof error), 1, 54, 0, error, null_line);
-    is(magbelu_check(NULL, 0, text, sizeof text, error, sizeof error), 0, 0, strlen("blocks 0\nconnections 0\nrates balanced\n"), NULL, "");
+    is(magbelu_check(NULL, 0, text, sizeof text, error, sizeof error), 0, 0,
+       strlen("blocks 0\nconnections 0\nrates balanced\n"), NULL, "");
     is(magbelu_script(chain, len, NULL, 0, NULL, 0, NULL, 0), 0, 0, 0, NULL, "");
 
     /* Text that is no graph file, and lines that are no script; what does not fit is not written. */
@@ -273,32 +283,37 @@ static void wrong(void) {
     placed();
 
     /* Tables. */
-    is(magbelu_run_items(chain, len, 0, &input, 1, &output, 1, lens, 1, text, sizeof text, error, sizeof error), 1, 53, 0, error,
-       "flow: refused 53 CutItem input 0\n");
+    is(magbelu_run_items(chain, len, 0, &input, 1, &output, 1, lens, 1, text, sizeof text, error, sizeof error), 1, 53,
+       0, error, "flow: refused 53 CutItem input 0\n");
     must(lens[0] == 7, "lengths of a run that was refused");
     input.len = 2;
-    is(magbelu_run_items(chain, len, 0, &input, 1, &output, 1, lens, 2, text, sizeof text, error, sizeof error), 0, 0, 2, NULL, "");
+    is(magbelu_run_items(chain, len, 0, &input, 1, &output, 1, lens, 2, text, sizeof text, error, sizeof error), 0, 0,
+       2, NULL, "");
     must(text[0] == 2 && text[1] == 0 && lens[0] == 2 && lens[1] == 7, "1 + 1");
-    is(magbelu_run_items(chain, len, 1, &input, 1, &output, 1, lens, 2, text, sizeof text, error, sizeof error), 0, 0, 2, NULL, "");
+    is(magbelu_run_items(chain, len, 1, &input, 1, &output, 1, lens, 2, text, sizeof text, error, sizeof error), 0, 0,
+       2, NULL, "");
     must(text[0] == 1 && text[1] == 1, "256 + 1");
     text[0] = 'Z';
-    is(magbelu_run_items(chain, len, 0, &input, 1, &output, 1, lens, 2, text, 1, error, sizeof error), 0, 0, 2, NULL, "");
+    is(magbelu_run_items(chain, len, 0, &input, 1, &output, 1, lens, 2, text, 1, error, sizeof error), 0, 0, 2, NULL,
+       "");
     must(text[0] == 'Z', "bytes that do not fit were written");
     is(magbelu_run_items(chain, len, 0, NULL, 0, NULL, 0, NULL, 0, NULL, 0, NULL, 0), 0, 0, 0, NULL, "");
-    is(magbelu_run_items(chain, len, 0, NULL, 1, NULL, 0, NULL, 0, NULL, 0, error, sizeof error), 1, 54, 0, error, null_line);
+    is(magbelu_run_items(chain, len, 0, NULL, 1, NULL, 0, NULL, 0, NULL, 0, error, sizeof error), 1, 54, 0, error,
+       null_line);
     input.name = (const uint8_t *)"none";
     input.name_len = 4;
-    is(magbelu_run_items(chain, len, 0, &input, 1, &output, 1, lens, 1, text, sizeof text, error, sizeof error), 1, 20, 0, error,
-       "flow: refused 20 NoSuchBlock input 0\n");
+    is(magbelu_run_items(chain, len, 0, &input, 1, &output, 1, lens, 1, text, sizeof text, error, sizeof error), 1, 20,
+       0, error, "flow: refused 20 NoSuchBlock input 0\n");
     input.name = (const uint8_t *)"out";
     input.name_len = 3;
-    is(magbelu_run_items(chain, len, 0, &input, 1, &output, 1, lens, 1, text, sizeof text, error, sizeof error), 1, 21, 0, error,
-       "flow: refused 21 NotSource input 0\n");
+    is(magbelu_run_items(chain, len, 0, &input, 1, &output, 1, lens, 1, text, sizeof text, error, sizeof error), 1, 21,
+       0, error, "flow: refused 21 NotSource input 0\n");
     output.name = (const uint8_t *)"add";
-    is(magbelu_run_items(chain, len, 0, NULL, 0, &output, 1, lens, 1, text, sizeof text, error, sizeof error), 1, 22, 0, error,
-       "flow: refused 22 NotSink output 0\n");
+    is(magbelu_run_items(chain, len, 0, NULL, 0, &output, 1, lens, 1, text, sizeof text, error, sizeof error), 1, 22, 0,
+       error, "flow: refused 22 NotSink output 0\n");
     output.name = NULL;
-    is(magbelu_run_items(chain, len, 0, NULL, 0, &output, 1, lens, 1, text, sizeof text, error, sizeof error), 1, 54, 0, error, null_line);
+    is(magbelu_run_items(chain, len, 0, NULL, 0, &output, 1, lens, 1, text, sizeof text, error, sizeof error), 1, 54, 0,
+       error, null_line);
 }
 
 int main(int count, char **words) {

@@ -14,10 +14,12 @@ extern const char chain[];
 void must(int holds, const char *saying);
 
 /* is ANSWER STATUS NUMBER OUTPUT_LEN ERROR LINE: whether the answer is this */
-void is(struct magbelu_answer answer, uint32_t status, uint32_t number, size_t output_len, const char *error, const char *line);
+void is(struct magbelu_answer answer, uint32_t status, uint32_t number, size_t output_len, const char *error,
+        const char *line);
 
 /* replied REPLY STATUS NUMBER WHAT VALUE: whether the reply is this */
-void replied(struct magbelu_reply reply, uint32_t status, uint32_t number, uint32_t what, uint64_t value, const char *saying);
+void replied(struct magbelu_reply reply, uint32_t status, uint32_t number, uint32_t what, uint64_t value,
+             const char *saying);
 
 /* In plants.c. */
 void held(void);

@@ -41,19 +41,24 @@ static void refuses(std::uint32_t number, const std::string &line, const std::fu
     try {
         call();
     } catch (const magbelu::refused &error) {
-        must(error.number() == number && error.what() == text, "wanted '" + text + "', and it is '" + error.what() + "'");
+        must(error.number() == number && error.what() == text,
+             "wanted '" + text + "', and it is '" + error.what() + "'");
         must(!error.floor(), "a first item that is open");
         const std::string head = std::to_string(number) + " " + error.name() + (error.detail().empty() ? "" : " " + error.detail());
-        must(head == line.substr(0, line.find('\n')), "wanted the name and the detail of '" + line + "', and they are '" + head + "'");
+        must(head == line.substr(0, line.find('\n')),
+             "wanted the name and the detail of '" + line + "', and they are '" + head + "'");
         return;
     }
     must(false, "not refused: " + text);
 }
 
 static void reasons_are_told() {
-    must(std::string(magbelu_name(27)) == "Late" && std::string(magbelu_reason(28)) == "the block has no setting", "a name and a reason");
-    must(std::string(magbelu_name(7)) == "Loop" && std::string(magbelu_reason(7)) == "the block reaches itself", "those of a file");
-    must(*magbelu_name(0) == 0 && *magbelu_reason(30) == 0 && *magbelu_name(UINT32_MAX) == 0, "of numbers that no call gives");
+    must(std::string(magbelu_name(27)) == "Late" && std::string(magbelu_reason(28)) == "the block has no setting",
+         "a name and a reason");
+    must(std::string(magbelu_name(7)) == "Loop" && std::string(magbelu_reason(7)) == "the block reaches itself",
+         "those of a file");
+    must(*magbelu_name(0) == 0 && *magbelu_reason(30) == 0 && *magbelu_name(UINT32_MAX) == 0,
+         "of numbers that no call gives");
     auto graph = chain("byte");
     graph.feed("src", {1, 2, 3});
     graph.settle();
@@ -103,7 +108,8 @@ static void settings_and_tags_come_out() {
     auto graph = chain("byte");
     graph.feed("src", {250, 1, 2, 3}, {{3, "burst", -7}, {0, "a", INT64_MIN}});
     must(graph.set("add", 100, 2) == 2, "the place of a setting");
-    must(graph.step("src", 3) == 3 && graph.step("add", 1) == 1 && graph.step("out") == 1 && graph.step("out") == 0, "counts of firings");
+    must(graph.step("src", 3) == 3 && graph.step("add", 1) == 1 && graph.step("out") == 1 && graph.step("out") == 0,
+         "counts of firings");
     graph.settle();
     must(items_of<std::uint8_t>(graph) == numbers{4, 11, 102, 103}, "a setting in the midst");
     const auto tags = graph.read<std::uint8_t>("out").tags;
@@ -115,7 +121,8 @@ static void settings_and_tags_come_out() {
     std::vector<magbelu::mark> many(1000, {4, "k", 1});
     graph.feed("src", {5}, many);
     graph.settle();
-    must(graph.read<std::uint8_t>("out", 4).tags.size() == 1000 && items_of<std::uint8_t>(graph, 4) == numbers{5}, "many tags");
+    must(graph.read<std::uint8_t>("out", 4).tags.size() == 1000 && items_of<std::uint8_t>(graph, 4) == numbers{5},
+         "many tags");
 }
 
 static void wrong_calls_are_refused() {
@@ -182,7 +189,8 @@ static void streams_tell_how_far_blocks_are() {
     magbelu::stream stream(chain_file("short"));
     stream.feed("src", {1, 2, 3});
     must(stream.step("src", 2) == 2 && stream.step("add") == 2 && stream.step("add") == 0, "how many firings are done");
-    must(are(stream.levels("src"), 2, 2, 1) && are(stream.levels("add"), 2, 2, 0) && are(stream.levels("out"), 0, 0, 2), "how far blocks are");
+    must(are(stream.levels("src"), 2, 2, 1) && are(stream.levels("add"), 2, 2, 0) && are(stream.levels("out"), 0, 0, 2),
+         "how far blocks are");
     refuses(20, "20 NoSuchBlock none", [&] { stream.levels("none"); });
     auto other = std::move(stream);
     refuses(55, "55 NotOpen src", [&] { stream.levels("src"); });
@@ -191,15 +199,18 @@ static void streams_tell_how_far_blocks_are() {
 
 static void streams_go_on() {
     magbelu::stream stream(chain_file("short"));
-    must(stream.need("src") == magbelu::wait::feed && stream.need("out") == magbelu::wait::items, "what blocks wait for");
+    must(stream.need("src") == magbelu::wait::feed && stream.need("out") == magbelu::wait::items,
+         "what blocks wait for");
     for (std::int16_t at = 0; at < 300; at++) {
         const std::vector<std::int16_t> items(1000, at);
         must(stream.feed("src", items, {{at * 1000u, "k", at}}) == (at + 1) * 1000u, "how many items were fed");
         must(stream.need("src") == magbelu::wait::ready && !stream.settle(), "an open source is done");
         const auto some = stream.drain<std::int16_t>("out", 1);
         must(some.items == std::vector<std::int16_t>{static_cast<std::int16_t>(at + 10)} && some.held == (at + 1) * 1000u, "the first item of a piece");
-        must(some.tags.size() == 1 && some.tags[0].offset == at * 1000u && some.tags[0].value == at, "the tag of a piece");
-        must(stream.drain<std::int16_t>("out").items.size() == 999 && stream.drain<std::int16_t>("out").items.empty(), "the others");
+        must(some.tags.size() == 1 && some.tags[0].offset == at * 1000u && some.tags[0].value == at,
+             "the tag of a piece");
+        must(stream.drain<std::int16_t>("out").items.size() == 999 && stream.drain<std::int16_t>("out").items.empty(),
+             "the others");
     }
     // More items and tags than a first room takes.
     stream.feed("src", std::vector<std::int16_t>(100000, 1), std::vector<magbelu::mark>(1000, {300000, "k", 1}));
@@ -220,7 +231,8 @@ static void slices_are_told() {
     auto graph = chain("short");
     const auto plan = graph.slices();
     must(plan.overlap == 0 && plan.sources.size() == 1 && plan.sinks.size() == 1, "a plan");
-    must(plan.sources[0].block == 0 && plan.sources[0].period == 1 && plan.sources[0].overlap == 0, "how a source is cut");
+    must(plan.sources[0].block == 0 && plan.sources[0].period == 1 && plan.sources[0].overlap == 0,
+         "how a source is cut");
     must(plan.sinks[0].block == 2 && plan.sinks[0].period == 1 && plan.sinks[0].drop == 0, "how a sink is cut");
     const auto start = magbelu::stream(chain_file("short")).slice(5, true);
     must(start.leaves_out == 5 && start.parts.size() == 1 && start.parts[0].block == 2 && start.parts[0].drop == 0 && start.parts[0].stands == 5, "a slice");
@@ -242,13 +254,15 @@ static void graphs_are_listed() {
     auto graph = chain("short");
     const auto blocks = graph.blocks();
     must(blocks.size() == 3 && blocks[0].name == "src" && blocks[0].kind == "vector_source" && blocks[0].role == magbelu::role::source, "a source");
-    must(blocks[0].inputs == 0 && blocks[0].outputs == 1 && blocks[0].output_type == magbelu::item_type::shorts, "its ports");
+    must(blocks[0].inputs == 0 && blocks[0].outputs == 1 && blocks[0].output_type == magbelu::item_type::shorts,
+         "its ports");
     must(blocks[1].role == magbelu::role::work && blocks[1].inputs == 1 && blocks[1].input_type == magbelu::item_type::shorts, "a block that works");
     must(blocks[2].name == "out" && blocks[2].role == magbelu::role::sink && blocks[2].outputs == 0, "a sink");
     const auto connections = magbelu::stream(chain_file("int")).connections();
     must(connections.size() == 2 && connections[0].from == 0 && connections[0].to == 1 && connections[1].from == 1 && connections[1].to == 2, "connections");
     must(connections[1].out_port == 0 && connections[1].in_port == 0, "their ports");
-    must(graph.draw().rfind("digraph {\n", 0) == 0 && graph.draw(magbelu::drawing::mermaid).rfind("flowchart LR\n", 0) == 0, "drawings");
+    must(graph.draw().rfind("digraph {\n", 0) == 0 && graph.draw(magbelu::drawing::mermaid).rfind("flowchart LR\n",
+        0) == 0, "drawings");
     auto other = std::move(graph);
     refuses(55, "55 NotOpen", [&] { graph.blocks(); });
 }
@@ -291,7 +305,8 @@ static void settings_and_rates_are_told() {
 /* files PATH: what is opened of a file that is written there */
 static void files_are_opened(const std::string &path) {
     std::ofstream(path) << chain_file("byte");
-    must(magbelu::graph::from_file(path).item_size("src") == 1 && magbelu::stream::from_file(path).is_open(), "what a file opens");
+    must(magbelu::graph::from_file(path).item_size("src") == 1 && magbelu::stream::from_file(path).is_open(),
+         "what a file opens");
     std::ofstream(path) << "[[block]]";
     const std::string place = "\n --> " + path + ":1:1\n  |\n1 | [[block]]\n  | ^ a block needs the key `name`: a text";
     refuses(42, "42 MissingKey block 0 name" + place, [&] { magbelu::stream::from_file(path); });

@@ -6,13 +6,15 @@
 
 #include "calls.h"
 
-static void shows(struct magbelu_plant *plant, uint64_t from, uint64_t max, const char *wanted, size_t wanted_len, uint64_t held, const char *lines) {
+static void shows(struct magbelu_plant *plant, uint64_t from, uint64_t max, const char *wanted, size_t wanted_len,
+                  uint64_t held, const char *lines) {
     char bytes[64], tags[256];
     struct magbelu_piece piece;
     memset(bytes, '-', sizeof bytes);
     piece = magbelu_read(plant, "out", 3, from, max, 0, bytes, sizeof bytes, tags, sizeof tags);
     must(piece.status == 0 && piece.number == 0 && piece.held == held && piece.item_size == 2, "what a read tells");
-    must(piece.bytes_len == wanted_len && memcmp(bytes, wanted, wanted_len) == 0 && bytes[wanted_len] == '-', "the bytes of a read");
+    must(piece.bytes_len == wanted_len && memcmp(bytes, wanted, wanted_len) == 0 && bytes[wanted_len] == '-',
+         "the bytes of a read");
     must(piece.tags_len == strlen(lines) && memcmp(tags, lines, piece.tags_len) == 0, "the tags of a read");
     piece = magbelu_read(plant, "out", 3, from, max, 0, NULL, 0, NULL, 0);
     must(piece.bytes_len == wanted_len && piece.tags_len == strlen(lines), "a read without room");
@@ -33,7 +35,8 @@ static void not_open(struct magbelu_plant *plant) {
     replied(magbelu_connections(plant, NULL, 0), 1, 55, 0, 0, "connections");
     replied(magbelu_rooms(plant, NULL, 0), 1, 55, 0, 0, "rooms");
     replied(magbelu_firings(plant, NULL, 0), 1, 55, 0, 0, "firings");
-    must(magbelu_setting(plant, 1, NULL, 0).number == 55 && magbelu_rates(plant, 1, NULL, 0).number == 55, "a setting and rates");
+    must(magbelu_setting(plant, 1, NULL, 0).number == 55 && magbelu_rates(plant, 1, NULL, 0).number == 55,
+         "a setting and rates");
     must(magbelu_block(plant, 0, bytes, sizeof bytes, NULL, 0).number == 55 && bytes[0] == 'a', "a block");
     is(magbelu_draw(plant, MAGBELU_DOT, bytes, sizeof bytes), 1, 55, 0, NULL, "");
     piece = magbelu_read(plant, "out", 3, 0, 9, 0, bytes, sizeof bytes, NULL, 0);
@@ -42,21 +45,26 @@ static void not_open(struct magbelu_plant *plant) {
 }
 
 /* block PLANT NUMBER NAME KIND ROLE INPUTS OUTPUTS: what the block is, of shorts */
-static void block(struct magbelu_plant *plant, uint32_t number, const char *name, const char *kind, uint32_t role, size_t inputs, size_t outputs) {
+static void block(struct magbelu_plant *plant, uint32_t number, const char *name, const char *kind, uint32_t role,
+                  size_t inputs, size_t outputs) {
     char names[32], kinds[32];
     struct magbelu_listed listed;
     memset(names, '-', sizeof names);
     memset(kinds, '-', sizeof kinds);
     listed = magbelu_block(plant, number, names, sizeof names, kinds, sizeof kinds);
     must(listed.status == 0 && listed.number == 0 && listed.role == role, "what a block does");
-    must(listed.name_len == strlen(name) && memcmp(names, name, listed.name_len) == 0 && names[listed.name_len] == '-', "the name of a block");
-    must(listed.kind_len == strlen(kind) && memcmp(kinds, kind, listed.kind_len) == 0 && kinds[listed.kind_len] == '-', "its kind");
+    must(listed.name_len == strlen(name) && memcmp(names, name, listed.name_len) == 0 && names[listed.name_len] == '-',
+         "the name of a block");
+    must(listed.kind_len == strlen(kind) && memcmp(kinds, kind, listed.kind_len) == 0 && kinds[listed.kind_len] == '-',
+         "its kind");
     must(listed.input_count == inputs && listed.output_count == outputs, "its ports");
-    must((inputs == 0 || listed.input_type == MAGBELU_SHORT) && (outputs == 0 || listed.output_type == MAGBELU_SHORT), "the types of its items");
+    must((inputs == 0 || listed.input_type == MAGBELU_SHORT) && (outputs == 0 || listed.output_type == MAGBELU_SHORT),
+         "the types of its items");
     /* (where one of the two does not fit, the other is written) */
     memset(names, '-', sizeof names);
     listed = magbelu_block(plant, number, names, listed.name_len, NULL, 0);
-    must(listed.kind_len == strlen(kind) && memcmp(names, name, listed.name_len) == 0, "a block without room for its kind");
+    must(listed.kind_len == strlen(kind) && memcmp(names, name, listed.name_len) == 0,
+         "a block without room for its kind");
 }
 
 /* The chain of shorts, whose outputs hold 4,096 items each. */
@@ -75,7 +83,8 @@ static void graph_is_told(struct magbelu_plant *plant) {
     block(plant, 1, "add", "add_const", MAGBELU_WORK, 1, 1);
     block(plant, 2, "out", "vector_sink", MAGBELU_SINK, 1, 0);
     must(magbelu_block(plant, 3, text, sizeof text, NULL, 0).number == 20, "a block beyond the last");
-    must(magbelu_block(plant, 0, NULL, 1, NULL, 0).number == 54 && magbelu_block(NULL, 0, NULL, 0, NULL, 0).number == 54, "a block at NULL");
+    must(magbelu_block(plant, 0, NULL, 1, NULL, 0).number == 54 && magbelu_block(NULL, 0, NULL, 0, NULL,
+        0).number == 54, "a block at NULL");
     replied(magbelu_connections(plant, rows, 1), 0, 0, 0, 2, "connections without room");
     must(rows[0].from == 9, "nothing is written where not all fits");
     replied(magbelu_connections(plant, rows, 3), 0, 0, 0, 2, "connections");
@@ -93,14 +102,17 @@ static void graph_is_told(struct magbelu_plant *plant) {
 }
 
 /* setting PLANT NUMBER WHAT LEAST MOST VALUE COUNT: what of the block may be set */
-static void setting(struct magbelu_plant *plant, uint32_t number, uint32_t what, int64_t least, int64_t most, int64_t value, size_t count) {
+static void setting(struct magbelu_plant *plant, uint32_t number, uint32_t what, int64_t least, int64_t most,
+                    int64_t value, size_t count) {
     const struct magbelu_block_setting got = magbelu_setting(plant, number, NULL, 0);
-    must(got.status == 0 && got.number == 0 && got.what == what && got.least == least && got.most == most, "what may be set");
+    must(got.status == 0 && got.number == 0 && got.what == what && got.least == least && got.most == most,
+         "what may be set");
     must(got.value == value && got.count == count, "the block's own");
 }
 
 /* rates PLANT NUMBER SHIFT SHIFTED GIVES INPUTS: what a firing of the block gives */
-static void rates(struct magbelu_plant *plant, uint32_t number, uint32_t shift, uint64_t shifted, uint64_t gives, size_t inputs) {
+static void rates(struct magbelu_plant *plant, uint32_t number, uint32_t shift, uint64_t shifted, uint64_t gives,
+                  size_t inputs) {
     const struct magbelu_block_rates got = magbelu_rates(plant, number, NULL, 0);
     must(got.status == 0 && got.number == 0 && got.shift == shift && got.shifted == shifted, "how a block shifts");
     must(got.gives == gives && got.input_count == inputs, "what it gives");
@@ -119,11 +131,13 @@ static void settings_and_rates(struct magbelu_plant *plant) {
     setting(plant, 0, MAGBELU_FIXED, 0, 0, 0, 0);
     setting(plant, 1, MAGBELU_NUMBER, -32768, 32767, 1, 0);
     must(magbelu_setting(plant, 1, taps, 1).count == 0 && taps[0] == 9, "no taps");
-    must(magbelu_setting(plant, 3, taps, 1).number == 20 && magbelu_setting(plant, 1, NULL, 1).number == 54, "no such block, and taps at NULL");
+    must(magbelu_setting(plant, 3, taps, 1).number == 20 && magbelu_setting(plant, 1, NULL, 1).number == 54,
+         "no such block, and taps at NULL");
     rates(plant, 0, MAGBELU_ALIKE, 0, 1, 0);
     rates(plant, 1, MAGBELU_ALIKE, 0, 1, 1);
     must(magbelu_rates(plant, 1, takes, 2).input_count == 1 && takes[0] == 1 && takes[1] == 9, "what it takes");
-    must(magbelu_rates(plant, 3, takes, 2).number == 20 && magbelu_rates(plant, 1, NULL, 1).number == 54, "no such block, and a table at NULL");
+    must(magbelu_rates(plant, 3, takes, 2).number == 20 && magbelu_rates(plant, 1, NULL, 1).number == 54,
+         "no such block, and a table at NULL");
     replied(magbelu_firings(plant, firings, 2), 0, 0, MAGBELU_BALANCED, 3, "firings without room");
     must(firings[0] == 9, "nothing is written where not all fits");
     replied(magbelu_firings(plant, firings, 4), 0, 0, MAGBELU_BALANCED, 3, "firings");
@@ -159,7 +173,8 @@ static void slow_filter(void) {
     rates(&stream.plant, 3, MAGBELU_ALIKE, 0, 2, 1);
     must(magbelu_stream_rates(&stream, 3, takes, 1).gives == 2 && takes[0] == 6, "what the filter takes");
     replied(magbelu_stream_firings(&stream, firings, 5), 0, 0, MAGBELU_BALANCED, 5, "firings");
-    must(firings[0] == 6 && firings[1] == 6 && firings[2] == 6 && firings[3] == 1 && firings[4] == 2, "how often each block fires");
+    must(firings[0] == 6 && firings[1] == 6 && firings[2] == 6 && firings[3] == 1 && firings[4] == 2,
+         "how often each block fires");
     replied(magbelu_stream_rooms(&stream, NULL, 0), 0, 0, 0, 4, "rooms");
     replied(magbelu_stream_free(&stream), 0, 0, 0, 0, "a free");
 }
@@ -219,7 +234,8 @@ void held(void) {
     shows(&plant, 3, 9, "", 0, 3, "");
     replied(magbelu_set(&plant, "add", 3, 0, 10), 1, MAGBELU_LATE, 0, 3, "a late setting");
     must(strcmp(magbelu_name(27), "Late") == 0 && strcmp(magbelu_reason(27), "the setting begins before the first item that is open") == 0, "a name and a reason");
-    must(strcmp(magbelu_name(0), "") == 0 && strcmp(magbelu_reason(30), "") == 0, "the name and the reason of no refusal");
+    must(strcmp(magbelu_name(0), "") == 0 && strcmp(magbelu_reason(30), "") == 0,
+         "the name and the reason of no refusal");
     replied(magbelu_feed(&plant, "src", 3, 1, "\0\1", 2, NULL, 0), 0, 0, 0, 4, "the highest byte first");
     replied(magbelu_feed_numbers(&plant, "src", 3, numbers, 2, NULL, 0), 0, 0, 0, 6, "a feed of numbers");
     replied(magbelu_feed(&plant, "src", 3, 0, NULL, 0, NULL, 0), 0, 0, 0, 6, "a feed of nothing");
@@ -246,9 +262,11 @@ static void *works(void *value) {
         for (at = 0; at < 1000; at++) {
             items[at] = (int16_t)(turn + at);
         }
-        replied(magbelu_feed(&plant, "src", 3, 0, items, sizeof items, NULL, 0), 0, 0, 0, 1000 * (uint64_t)(turn + 1), "a feed");
+        replied(magbelu_feed(&plant, "src", 3, 0, items, sizeof items, NULL, 0), 0, 0, 0, 1000 * (uint64_t)(turn + 1),
+                "a feed");
         replied(magbelu_settle(&plant), 3, 0, 0, 0, "a settle");
-        must(magbelu_read(&plant, "out", 3, 1000 * (uint64_t)turn, 1000, 0, got, sizeof got, NULL, 0).bytes_len == sizeof got, "a read");
+        must(magbelu_read(&plant, "out", 3, 1000 * (uint64_t)turn, 1000, 0, got, sizeof got, NULL,
+                          0).bytes_len == sizeof got, "a read");
         for (at = 0; at < 1000; at++) {
             must(got[at] == turn + at + add, "an item");
         }
@@ -260,6 +278,7 @@ static void *works(void *value) {
 void threads(void) {
     pthread_t each[2];
     int16_t values[2] = {100, -100};
-    must(pthread_create(&each[0], NULL, works, &values[0]) == 0 && pthread_create(&each[1], NULL, works, &values[1]) == 0, "no thread");
+    must(pthread_create(&each[0], NULL, works, &values[0]) == 0 && pthread_create(&each[1], NULL, works,
+        &values[1]) == 0, "no thread");
     must(pthread_join(each[0], NULL) == 0 && pthread_join(each[1], NULL) == 0, "no join");
 }

@@ -31,8 +31,10 @@ static const char uneven[] =
     "    { name = \"add\", kind = \"add\", type = \"byte\" }, { name = \"out\", kind = \"vector_sink\", type = \"byte\" }]\n"
     "connect = [{ from = \"src\", to = \"keep\" }, { from = \"keep\", to = \"add\" }, { from = \"src\", to = \"add\", to_port = 1 }, { from = \"add\", to = \"out\" }]\n";
 
-static void tells(struct magbelu_slicing told, uint32_t status, uint32_t number, uint32_t block, uint64_t iterations, size_t sources, size_t sinks, const char *saying) {
-    must(told.status == status && told.number == number && told.block == block && told.iterations == iterations, saying);
+static void tells(struct magbelu_slicing told, uint32_t status, uint32_t number, uint32_t block, uint64_t iterations,
+                  size_t sources, size_t sinks, const char *saying) {
+    must(told.status == status && told.number == number && told.block == block && told.iterations == iterations,
+         saying);
     must(told.source_count == sources && told.sink_count == sinks, saying);
 }
 
@@ -63,24 +65,31 @@ static void plans_have_their_numbers(void) {
     struct magbelu_stream stream = opened(sums);
     struct magbelu_cut_source sources[2] = {{7, 7, 7}, {7, 7, 7}};
     struct magbelu_cut_sink sinks[2] = {{7, 7, 7}, {7, 7, 7}};
-    tells(magbelu_stream_slices(&stream, 0, NULL, 0, NULL, 0), 0, 0, MAGBELU_NO_BLOCK, 2, 1, 1, "a plan with no room for rows");
-    tells(magbelu_stream_slices(&stream, 0, NULL, 0, sinks, 2), 0, 0, MAGBELU_NO_BLOCK, 2, 1, 1, "a plan with room for sinks");
+    tells(magbelu_stream_slices(&stream, 0, NULL, 0, NULL, 0), 0, 0, MAGBELU_NO_BLOCK, 2, 1, 1,
+          "a plan with no room for rows");
+    tells(magbelu_stream_slices(&stream, 0, NULL, 0, sinks, 2), 0, 0, MAGBELU_NO_BLOCK, 2, 1, 1,
+          "a plan with room for sinks");
     must(sinks[0].block == 3 && sinks[0].period == 1 && sinks[0].drop == 2 && sinks[1].block == 7, "how a sink is cut");
     tells(magbelu_stream_slices(&stream, 0, sources, 2, sinks, 2), 0, 0, MAGBELU_NO_BLOCK, 2, 1, 1, "a plan");
-    must(sources[0].block == 0 && sources[0].period == 2 && sources[0].overlap == 4 && sources[1].block == 7, "how a source is cut");
+    must(sources[0].block == 0 && sources[0].period == 2 && sources[0].overlap == 4 && sources[1].block == 7,
+         "how a source is cut");
     magbelu_stream_free(&stream);
 }
 
 static void slices_begin_behind_the_overlap(void) {
     struct magbelu_stream stream = opened(sums);
     struct magbelu_cut_part parts[2] = {{7, 7, 7}, {7, 7, 7}};
-    tells(magbelu_stream_slice(&stream, 0, 1, parts, 2), 1, MAGBELU_NO_CUT, MAGBELU_NO_BLOCK, 0, 0, 0, "a slice within the first overlap");
-    tells(magbelu_stream_slice(&stream, 0, ((uint64_t)1 << 46) + 1, parts, 2), 1, MAGBELU_NO_CUT, MAGBELU_NO_BLOCK, 0, 0, 0, "a slice too far behind");
+    tells(magbelu_stream_slice(&stream, 0, 1, parts, 2), 1, MAGBELU_NO_CUT, MAGBELU_NO_BLOCK, 0, 0, 0,
+          "a slice within the first overlap");
+    tells(magbelu_stream_slice(&stream, 0, ((uint64_t)1 << 46) + 1, parts, 2), 1, MAGBELU_NO_CUT, MAGBELU_NO_BLOCK, 0,
+          0, 0, "a slice too far behind");
     must(parts[0].block == 7, "a refusal writes");
     tells(magbelu_stream_slice(&stream, 0, 2, NULL, 0), 0, 0, MAGBELU_NO_BLOCK, 0, 0, 1, "a slice with no room");
     tells(magbelu_stream_slice(&stream, 0, 0, parts, 2), 0, 0, MAGBELU_NO_BLOCK, 0, 0, 1, "the first slice");
-    must(parts[0].block == 3 && parts[0].drop == 0 && parts[0].stands == 0 && parts[1].block == 7, "the first slice drops something");
-    tells(magbelu_stream_slice(&stream, 0, (uint64_t)1 << 46, parts, 2), 0, 0, MAGBELU_NO_BLOCK, ((uint64_t)1 << 46) - 2, 0, 1, "the last slice");
+    must(parts[0].block == 3 && parts[0].drop == 0 && parts[0].stands == 0 && parts[1].block == 7,
+         "the first slice drops something");
+    tells(magbelu_stream_slice(&stream, 0, (uint64_t)1 << 46, parts, 2), 0, 0, MAGBELU_NO_BLOCK,
+          ((uint64_t)1 << 46) - 2, 0, 1, "the last slice");
     must(parts[0].drop == 2 && parts[0].stands == (uint64_t)1 << 46, "where the last slice stands");
     magbelu_stream_free(&stream);
 }
@@ -88,19 +97,28 @@ static void slices_begin_behind_the_overlap(void) {
 static void what_is_not_cut_is_told(void) {
     struct magbelu_stream stream = opened(coded), none = MAGBELU_NO_STREAM;
     struct magbelu_cut_part part = {7, 7, 7};
-    tells(magbelu_stream_slices(&stream, 0, NULL, 0, NULL, 0), 1, MAGBELU_NO_SLICES, 2, 0, 0, 0, "a block that keeps all");
-    tells(magbelu_stream_slice(&stream, 1, 5, &part, 1), 1, MAGBELU_NO_SLICES, 2, 0, 0, 0, "a slice of a block that keeps all");
+    tells(magbelu_stream_slices(&stream, 0, NULL, 0, NULL, 0), 1, MAGBELU_NO_SLICES, 2, 0, 0, 0,
+          "a block that keeps all");
+    tells(magbelu_stream_slice(&stream, 1, 5, &part, 1), 1, MAGBELU_NO_SLICES, 2, 0, 0, 0,
+          "a slice of a block that keeps all");
     magbelu_stream_free(&stream);
     stream = opened(uneven);
-    tells(magbelu_stream_slices(&stream, 0, NULL, 0, NULL, 0), 1, MAGBELU_NO_SLICES, MAGBELU_NO_BLOCK, 0, 0, 0, "rates without a balance");
-    tells(magbelu_stream_slice(&stream, 0, 0, &part, 1), 1, MAGBELU_NO_SLICES, MAGBELU_NO_BLOCK, 0, 0, 0, "a slice of such rates");
-    tells(magbelu_stream_slices(&stream, 0, NULL, 1, NULL, 0), 1, MAGBELU_NULL, MAGBELU_NO_BLOCK, 0, 0, 0, "sources at NULL");
-    tells(magbelu_stream_slices(&stream, 0, NULL, 0, NULL, 1), 1, MAGBELU_NULL, MAGBELU_NO_BLOCK, 0, 0, 0, "sinks at NULL");
+    tells(magbelu_stream_slices(&stream, 0, NULL, 0, NULL, 0), 1, MAGBELU_NO_SLICES, MAGBELU_NO_BLOCK, 0, 0, 0,
+          "rates without a balance");
+    tells(magbelu_stream_slice(&stream, 0, 0, &part, 1), 1, MAGBELU_NO_SLICES, MAGBELU_NO_BLOCK, 0, 0, 0,
+          "a slice of such rates");
+    tells(magbelu_stream_slices(&stream, 0, NULL, 1, NULL, 0), 1, MAGBELU_NULL, MAGBELU_NO_BLOCK, 0, 0, 0,
+          "sources at NULL");
+    tells(magbelu_stream_slices(&stream, 0, NULL, 0, NULL, 1), 1, MAGBELU_NULL, MAGBELU_NO_BLOCK, 0, 0, 0,
+          "sinks at NULL");
     tells(magbelu_stream_slice(&stream, 0, 0, NULL, 1), 1, MAGBELU_NULL, MAGBELU_NO_BLOCK, 0, 0, 0, "parts at NULL");
-    tells(magbelu_stream_slices(NULL, 0, NULL, 0, NULL, 0), 1, MAGBELU_NULL, MAGBELU_NO_BLOCK, 0, 0, 0, "a stream at NULL");
+    tells(magbelu_stream_slices(NULL, 0, NULL, 0, NULL, 0), 1, MAGBELU_NULL, MAGBELU_NO_BLOCK, 0, 0, 0,
+          "a stream at NULL");
     magbelu_stream_free(&stream);
-    tells(magbelu_stream_slices(&none, 0, NULL, 0, NULL, 0), 1, MAGBELU_NOT_OPEN, MAGBELU_NO_BLOCK, 0, 0, 0, "a plan of no plant");
-    tells(magbelu_stream_slice(&none, 0, 0, &part, 1), 1, MAGBELU_NOT_OPEN, MAGBELU_NO_BLOCK, 0, 0, 0, "a slice of no plant");
+    tells(magbelu_stream_slices(&none, 0, NULL, 0, NULL, 0), 1, MAGBELU_NOT_OPEN, MAGBELU_NO_BLOCK, 0, 0, 0,
+          "a plan of no plant");
+    tells(magbelu_stream_slice(&none, 0, 0, &part, 1), 1, MAGBELU_NOT_OPEN, MAGBELU_NO_BLOCK, 0, 0, 0,
+          "a slice of no plant");
     must(part.block == 7, "a refusal writes");
 }
 
@@ -163,7 +181,8 @@ static void heads_go_on_where_they_stand(void) {
 
 static void streams_for_slices_are_refused(void) {
     struct magbelu_stream stream = opened(sums);
-    must(magbelu_stream_open_at(&stream, sums, strlen(sums), 5, NULL, 0).number == MAGBELU_IS_OPEN, "a stream is held already");
+    must(magbelu_stream_open_at(&stream, sums, strlen(sums), 5, NULL, 0).number == MAGBELU_IS_OPEN,
+         "a stream is held already");
     must(magbelu_stream_item_size(&stream, "src", 3).value == 2, "the stream that was held stays");
     magbelu_stream_free(&stream);
     refuses_at("x", 5, 40, "flow: refused 40 Syntax\n");

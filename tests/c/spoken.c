@@ -75,7 +75,8 @@ int main(void) {
         while (set < SETTINGS && settings[set].at <= at) {
             set++;
         }
-        must(got[at] == (int16_t)(at % 10000 + (set > 0 ? (uint64_t)settings[set - 1].value : 0)), "an item is not what the settings make of it");
+        must(got[at] == (int16_t)(at % 10000 + (set > 0 ? (uint64_t)settings[set - 1].value : 0)),
+             "an item is not what the settings make of it");
     }
     must(magbelu_stream_free(&stream).number == 0, "the stream is not freed");
     return 0;

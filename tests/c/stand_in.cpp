@@ -49,7 +49,9 @@ std::uint32_t wrong(const magbelu_plant *held, const std::string &name, const ch
 
 plant &in(const magbelu_plant *held) { return *static_cast<plant *>(held->at); }
 
-std::string text_of(const std::uint8_t *at, std::size_t len) { return std::string(reinterpret_cast<const char *>(at), len); }
+std::string text_of(const std::uint8_t *at, std::size_t len) {
+    return std::string(reinterpret_cast<const char *>(at), len);
+}
 
 /* Writes a text where it fits. */
 std::size_t put(const std::string &text, void *at, std::size_t room) {
@@ -104,13 +106,15 @@ std::uint64_t waiting(plant &own, const std::string &name) {
 }
 
 /* Writes at most so many of the items that the sink took from one on, and their tags. */
-magbelu_piece show(plant &own, std::uint64_t from, std::uint64_t max, std::uint8_t *bytes, std::size_t bytes_room, std::uint8_t *tags, std::size_t tags_room) {
+magbelu_piece show(plant &own, std::uint64_t from, std::uint64_t max, std::uint8_t *bytes, std::size_t bytes_room,
+                   std::uint8_t *tags, std::size_t tags_room) {
     const std::uint64_t end = from + std::min<std::uint64_t>(max, own.sink.size() - from);
     std::string items, lines;
     for (std::uint64_t at = from; at < end; at++) {
         items.append(reinterpret_cast<const char *>(&own.sink[at]), own.size);
     }
-    std::stable_sort(own.marks.begin(), own.marks.end(), [](const mark &a, const mark &b) { return a.offset < b.offset; });
+    std::stable_sort(own.marks.begin(), own.marks.end(),
+                     [](const mark &a, const mark &b) { return a.offset < b.offset; });
     for (const mark &it : own.marks) {
         lines += it.offset >= from && it.offset < end ? it.text : "";
     }
@@ -121,13 +125,15 @@ magbelu_piece show(plant &own, std::uint64_t from, std::uint64_t max, std::uint8
 
 extern "C" {
 
-magbelu_answer magbelu_bytes_explain(const std::uint8_t *name, std::size_t name_len, const std::uint8_t *, std::size_t, std::uint8_t *output, std::size_t room,
-                                     std::uint8_t *error, std::size_t error_room) {
+magbelu_answer magbelu_bytes_explain(const std::uint8_t *name, std::size_t name_len, const std::uint8_t *, std::size_t,
+                                     std::uint8_t *output, std::size_t room, std::uint8_t *error,
+                                     std::size_t error_room) {
     const std::string place = " --> " + text_of(name, name_len) + ":1:1\n  |\n1 | [[block]]\n  | ^ a block needs the key `name`: a text\n";
     return {1, 42, put(place, output, room), put("flow: refused 42 MissingKey block 0 name\n", error, error_room)};
 }
 
-magbelu_fault_place magbelu_bytes_place(const std::uint8_t *file, std::size_t file_len, std::uint8_t *why, std::size_t room) {
+magbelu_fault_place magbelu_bytes_place(const std::uint8_t *file, std::size_t file_len, std::uint8_t *why,
+                                        std::size_t room) {
     const std::string text = text_of(file, file_len);
     if (text == "[[block]]") {
         return {1, 42, 1, 1, 1, put("a block needs the key `name`: a text", why, room)};
@@ -138,7 +144,8 @@ magbelu_fault_place magbelu_bytes_place(const std::uint8_t *file, std::size_t fi
     return {0, 0, 0, 0, 0, 0};
 }
 
-magbelu_answer magbelu_bytes_open(magbelu_plant *held, const std::uint8_t *file, std::size_t file_len, std::uint8_t *error, std::size_t error_room) {
+magbelu_answer magbelu_bytes_open(magbelu_plant *held, const std::uint8_t *file, std::size_t file_len,
+                                  std::uint8_t *error, std::size_t error_room) {
     const std::string text = text_of(file, file_len);
     if (text == "[[block]]") {
         return {1, 42, 0, put("flow: refused 42 MissingKey block 0 name\n", error, error_room)};
@@ -165,8 +172,9 @@ magbelu_reply magbelu_bytes_item_size(magbelu_plant *held, const std::uint8_t *n
     return number != 0 ? refuse(number) : magbelu_reply{0, 0, 0, in(held).size};
 }
 
-magbelu_reply magbelu_bytes_feed(magbelu_plant *held, const std::uint8_t *name, std::size_t name_len, std::uint32_t, const std::uint8_t *bytes, std::size_t len,
-                                 const magbelu_tag *tags, std::size_t count) {
+magbelu_reply magbelu_bytes_feed(magbelu_plant *held, const std::uint8_t *name, std::size_t name_len, std::uint32_t,
+                                 const std::uint8_t *bytes, std::size_t len, const magbelu_tag *tags,
+                                 std::size_t count) {
     const std::uint32_t number = wrong(held, text_of(name, name_len), "src", 21);
     if (number != 0) {
         return refuse(number);
@@ -180,10 +188,12 @@ magbelu_reply magbelu_bytes_feed(magbelu_plant *held, const std::uint8_t *name, 
     return feed(in(held), items, tags, count);
 }
 
-magbelu_reply magbelu_bytes_feed_numbers(magbelu_plant *held, const std::uint8_t *name, std::size_t name_len, const std::int64_t *numbers, std::size_t count,
-                                         const magbelu_tag *tags, std::size_t tag_count) {
+magbelu_reply magbelu_bytes_feed_numbers(magbelu_plant *held, const std::uint8_t *name, std::size_t name_len,
+                                         const std::int64_t *numbers, std::size_t count, const magbelu_tag *tags,
+                                         std::size_t tag_count) {
     const std::uint32_t number = wrong(held, text_of(name, name_len), "src", 21);
-    return number != 0 ? refuse(number) : feed(in(held), std::vector<std::int64_t>(numbers, numbers + count), tags, tag_count);
+    return number != 0 ? refuse(number) : feed(in(held), std::vector<std::int64_t>(numbers, numbers + count), tags,
+                                               tag_count);
 }
 
 magbelu_reply magbelu_bytes_close(magbelu_plant *held, const std::uint8_t *name, std::size_t len) {
@@ -195,7 +205,8 @@ magbelu_reply magbelu_bytes_close(magbelu_plant *held, const std::uint8_t *name,
     return {0, 0, 0, in(held).tape.size()};
 }
 
-magbelu_reply magbelu_bytes_set(magbelu_plant *held, const std::uint8_t *name, std::size_t len, std::uint64_t at, std::int64_t value) {
+magbelu_reply magbelu_bytes_set(magbelu_plant *held, const std::uint8_t *name, std::size_t len, std::uint64_t at,
+                                std::int64_t value) {
     const std::uint32_t number = wrong(held, text_of(name, len), "add", 28);
     if (number != 0) {
         return refuse(number);
@@ -208,7 +219,10 @@ magbelu_reply magbelu_bytes_set(magbelu_plant *held, const std::uint8_t *name, s
     return {0, 0, 0, at};
 }
 
-magbelu_reply magbelu_bytes_set_taps(magbelu_plant *, const std::uint8_t *, std::size_t, std::uint64_t, const std::int16_t *, std::size_t) { return refuse(29); }
+magbelu_reply magbelu_bytes_set_taps(magbelu_plant *, const std::uint8_t *, std::size_t, std::uint64_t,
+                                     const std::int16_t *, std::size_t) {
+    return refuse(29);
+}
 
 magbelu_reply magbelu_bytes_step(magbelu_plant *held, const std::uint8_t *name, std::size_t len, std::uint32_t max) {
     const std::string own = text_of(name, len);
@@ -225,12 +239,13 @@ magbelu_reply magbelu_bytes_settle(magbelu_plant *held) {
     return {own.is_closed ? 0u : 3u, 0, 0, 0};
 }
 
-magbelu_answer magbelu_bytes_open_stream(magbelu_plant *held, const std::uint8_t *file, std::size_t file_len, std::uint8_t *error, std::size_t error_room) {
+magbelu_answer magbelu_bytes_open_stream(magbelu_plant *held, const std::uint8_t *file, std::size_t file_len,
+                                         std::uint8_t *error, std::size_t error_room) {
     return magbelu_bytes_open(held, file, file_len, error, error_room);
 }
 
-magbelu_answer magbelu_bytes_open_stream_at(magbelu_plant *held, const std::uint8_t *file, std::size_t file_len, std::uint64_t iterations, std::uint8_t *error,
-                                            std::size_t error_room) {
+magbelu_answer magbelu_bytes_open_stream_at(magbelu_plant *held, const std::uint8_t *file, std::size_t file_len,
+                                            std::uint64_t iterations, std::uint8_t *error, std::size_t error_room) {
     return iterations > std::uint64_t(1) << 46 ? magbelu_answer{1, MAGBELU_NO_CUT, 0, 0} : magbelu_bytes_open(held, file, file_len, error, error_room);
 }
 
@@ -253,8 +268,9 @@ magbelu_levels magbelu_bytes_levels(magbelu_plant *held, const std::uint8_t *nam
     return {0, 0, in(held).fired[own], in(held).fired[own], waiting(in(held), own)};
 }
 
-magbelu_piece magbelu_bytes_read(magbelu_plant *held, const std::uint8_t *name, std::size_t len, std::uint64_t from, std::uint64_t max, std::uint32_t,
-                                 std::uint8_t *bytes, std::size_t bytes_room, std::uint8_t *tags, std::size_t tags_room) {
+magbelu_piece magbelu_bytes_read(magbelu_plant *held, const std::uint8_t *name, std::size_t len, std::uint64_t from,
+                                 std::uint64_t max, std::uint32_t, std::uint8_t *bytes, std::size_t bytes_room,
+                                 std::uint8_t *tags, std::size_t tags_room) {
     const std::uint32_t number = wrong(held, text_of(name, len), "out", 22);
     if (number != 0 || from > in(held).sink.size()) {
         return {1, number != 0 ? number : 31, 0, 0, 0, 0};
@@ -262,8 +278,9 @@ magbelu_piece magbelu_bytes_read(magbelu_plant *held, const std::uint8_t *name, 
     return show(in(held), from, max, bytes, bytes_room, tags, tags_room);
 }
 
-magbelu_piece magbelu_bytes_drain(magbelu_plant *held, const std::uint8_t *name, std::size_t len, std::uint64_t max, std::uint32_t, std::uint8_t *bytes,
-                                  std::size_t bytes_room, std::uint8_t *tags, std::size_t tags_room) {
+magbelu_piece magbelu_bytes_drain(magbelu_plant *held, const std::uint8_t *name, std::size_t len, std::uint64_t max,
+                                  std::uint32_t, std::uint8_t *bytes, std::size_t bytes_room, std::uint8_t *tags,
+                                  std::size_t tags_room) {
     const std::uint32_t number = wrong(held, text_of(name, len), "out", 22);
     if (number != 0) {
         return {1, number, 0, 0, 0, 0};
@@ -276,13 +293,17 @@ magbelu_piece magbelu_bytes_drain(magbelu_plant *held, const std::uint8_t *name,
     return shown;
 }
 
-magbelu_reply magbelu_bytes_block_count(magbelu_plant *held) { return held->is_open ? magbelu_reply{0, 0, 0, std::size(names)} : refuse(MAGBELU_NOT_OPEN); }
+magbelu_reply magbelu_bytes_block_count(magbelu_plant *held) {
+    return held->is_open ? magbelu_reply{0, 0, 0, std::size(names)} : refuse(MAGBELU_NOT_OPEN);
+}
 
-magbelu_listed magbelu_bytes_block(magbelu_plant *held, std::uint32_t number, std::uint8_t *name, std::size_t name_room, std::uint8_t *kind, std::size_t kind_room) {
+magbelu_listed magbelu_bytes_block(magbelu_plant *held, std::uint32_t number, std::uint8_t *name, std::size_t name_room,
+                                   std::uint8_t *kind, std::size_t kind_room) {
     static const char *const kinds[] = {"vector_source", "add_const", "vector_sink"};
     static const std::uint32_t roles[] = {MAGBELU_SOURCE, MAGBELU_WORK, MAGBELU_SINK};
     const std::uint32_t type = in(held).size == 1 ? MAGBELU_BYTE : in(held).size == 2 ? MAGBELU_SHORT : MAGBELU_INT;
-    return {0, 0, roles[number], type, type, number != 0, number != 2, put(names[number], name, name_room), put(kinds[number], kind, kind_room)};
+    return {0, 0, roles[number], type, type, number != 0, number != 2, put(names[number], name,
+        name_room), put(kinds[number], kind, kind_room)};
 }
 
 magbelu_reply magbelu_bytes_connections(magbelu_plant *, magbelu_connection *connections, std::size_t room) {
@@ -301,7 +322,8 @@ magbelu_reply magbelu_bytes_rooms(magbelu_plant *, std::uint64_t *rooms, std::si
 }
 
 /* (taps are 0, 1, .., 99) */
-magbelu_block_setting magbelu_bytes_setting(magbelu_plant *held, std::uint32_t number, std::int16_t *taps, std::size_t room) {
+magbelu_block_setting magbelu_bytes_setting(magbelu_plant *held, std::uint32_t number, std::int16_t *taps,
+                                            std::size_t room) {
     if (number >= std::size(names)) {
         return {1, 20, 0, 0, 0, 0, 0};
     }
@@ -318,7 +340,8 @@ magbelu_block_setting magbelu_bytes_setting(magbelu_plant *held, std::uint32_t n
     return {0, 0, MAGBELU_NUMBER, least, least + 2 * half - 1, 10, 0};
 }
 
-magbelu_block_rates magbelu_bytes_rates(magbelu_plant *held, std::uint32_t number, std::uint64_t *takes, std::size_t room) {
+magbelu_block_rates magbelu_bytes_rates(magbelu_plant *held, std::uint32_t number, std::uint64_t *takes,
+                                        std::size_t room) {
     if (!held->is_open || number >= std::size(names)) {
         return {1, held->is_open ? 20u : 55u, 0, 0, 0, 0};
     }
@@ -343,8 +366,8 @@ magbelu_answer magbelu_bytes_draw(magbelu_plant *, std::uint32_t format, std::ui
 }
 
 /* (an item comes of the item of the same number alone) */
-magbelu_slicing magbelu_bytes_slices(magbelu_plant *held, std::uint32_t, magbelu_cut_source *sources, std::size_t source_room, magbelu_cut_sink *sinks,
-                                     std::size_t sink_room) {
+magbelu_slicing magbelu_bytes_slices(magbelu_plant *held, std::uint32_t, magbelu_cut_source *sources,
+                                     std::size_t source_room, magbelu_cut_sink *sinks, std::size_t sink_room) {
     if (in(held).keeps_all) {
         return {1, MAGBELU_NO_SLICES, 1, 0, 0, 0};
     }
@@ -357,7 +380,8 @@ magbelu_slicing magbelu_bytes_slices(magbelu_plant *held, std::uint32_t, magbelu
     return {0, 0, MAGBELU_NO_BLOCK, 0, 1, 1};
 }
 
-magbelu_slicing magbelu_bytes_slice(magbelu_plant *held, std::uint32_t, std::uint64_t begins, magbelu_cut_part *parts, std::size_t room) {
+magbelu_slicing magbelu_bytes_slice(magbelu_plant *held, std::uint32_t, std::uint64_t begins, magbelu_cut_part *parts,
+                                    std::size_t room) {
     if (in(held).keeps_all || begins > std::uint64_t(1) << 46) {
         return {1, in(held).keeps_all ? 63u : 64u, in(held).keeps_all ? 1 : MAGBELU_NO_BLOCK, 0, 0, 0};
     }

@@ -5,24 +5,29 @@
 
 #include "calls.h"
 
-static void drains(struct magbelu_stream *stream, uint64_t max, const char *wanted, size_t wanted_len, uint64_t held, const char *lines) {
+static void drains(struct magbelu_stream *stream, uint64_t max, const char *wanted, size_t wanted_len, uint64_t held,
+                   const char *lines) {
     char bytes[64], tags[256];
     struct magbelu_piece piece;
     memset(bytes, '-', sizeof bytes);
     /* What does not fit is not taken away. */
-    piece = magbelu_stream_drain(stream, "out", 3, max, 0, bytes, wanted_len > 0 ? wanted_len - 1 : 0, tags, sizeof tags);
-    must(piece.bytes_len == wanted_len && piece.tags_len == strlen(lines) && (wanted_len == 0 || bytes[0] == '-'), "a drain with too little room");
+    piece = magbelu_stream_drain(stream, "out", 3, max, 0, bytes, wanted_len > 0 ? wanted_len - 1 : 0, tags,
+                                 sizeof tags);
+    must(piece.bytes_len == wanted_len && piece.tags_len == strlen(lines) && (wanted_len == 0 || bytes[0] == '-'),
+         "a drain with too little room");
     if (lines[0] != 0) {
         piece = magbelu_stream_drain(stream, "out", 3, max, 0, bytes, sizeof bytes, tags, strlen(lines) - 1);
         must(piece.bytes_len == wanted_len && piece.tags_len == strlen(lines), "a drain with too little room for tags");
     }
     piece = magbelu_stream_drain(stream, "out", 3, max, 0, bytes, sizeof bytes, tags, sizeof tags);
     must(piece.status == 0 && piece.number == 0 && piece.held == held && piece.item_size == 2, "what a drain tells");
-    must(piece.bytes_len == wanted_len && memcmp(bytes, wanted, wanted_len) == 0 && bytes[wanted_len] == '-', "the bytes of a drain");
+    must(piece.bytes_len == wanted_len && memcmp(bytes, wanted, wanted_len) == 0 && bytes[wanted_len] == '-',
+         "the bytes of a drain");
     must(piece.tags_len == strlen(lines) && memcmp(tags, lines, piece.tags_len) == 0, "the tags of a drain");
 }
 
-static void levels_are(struct magbelu_stream *stream, const char *block, uint32_t status, uint32_t number, uint64_t taken, uint64_t given, uint64_t waiting) {
+static void levels_are(struct magbelu_stream *stream, const char *block, uint32_t status, uint32_t number,
+                       uint64_t taken, uint64_t given, uint64_t waiting) {
     const struct magbelu_levels told = magbelu_stream_levels(stream, block, strlen(block));
     must(told.status == status && told.number == number && told.taken == taken && told.given == given && told.waiting == waiting, "how far a block is");
 }
