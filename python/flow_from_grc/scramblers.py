@@ -33,7 +33,8 @@ def descrambler(settings: Settings) -> Node:
 
 
 def additive_scrambler(settings: Settings) -> Node:
-    """The same items. A register that goes on for ever is a kind; one that begins anew gives the same list again and again."""
+    """The same items. A register that goes on for ever is a kind; one that begins anew gives the same list again and
+    again."""
     if settings.string("reset_tag_key"):
         raise settings.refused("reset_tag_key", Code.BAD_PARAMETER, "no tag resets a register here")
     width, count = settings.whole("bits_per_byte", 1, _BYTE.bits), settings.whole("count", 0, _MOST_OUTPUTS)
@@ -61,7 +62,8 @@ def _going_on(settings: Settings) -> Part:
 
 
 def _widened(settings: Settings, register: Part, width: int) -> Node:
-    """As many bits of the register as a byte takes, its lowest bit first: the register has so many zeros for each byte, and what it gives is packed."""
+    """As many bits of the register as a byte takes, its lowest bit first: the register has so many zeros for each byte,
+    and what it gives is packed."""
     zeros = Part("and_const", {"type": str(_BYTE), "value": 0, "tags": "none"})
     parts = [zeros, Part("repeat", {"type": str(_BYTE), "n": width}), register, Part("repack_bits", {"k": 1, "l": width, "order": "lsb_first"})]
     return _joined(settings, *parts)

@@ -1,5 +1,6 @@
-"""Threads that have one stream of python/magbelu: one goes through its pieces, one sets its block, and one asks how far it is. Each item is what the settings make of it.
-tests/parts/c.sh calls it, over the library, and with the thread sanitizer over what stands for it, which tells where two of its calls are not one behind the other."""
+"""Threads that have one stream of python/magbelu: one goes through its pieces, one sets its block, and one asks how far
+it is. Each item is what the settings make of it. tests/parts/c.sh calls it, over the library, and with the thread
+sanitizer over what stands for it, which tells where two of its calls are not one behind the other."""
 
 import asyncio
 import threading
@@ -13,7 +14,8 @@ PARTS = [TAPE[at : at + PIECE] for at in range(0, len(TAPE), PIECE)]
 
 
 def with_others(stream, run):
-    """What `run` gives while two threads have the stream too, and what it is set to from which items on, in their order."""
+    """What `run` gives while two threads have the stream too, and what it is set to from which items on, in their
+    order."""
     is_over, settings, faults = threading.Event(), [(0, 10)], []
 
     def again(call):

@@ -554,8 +554,8 @@ def bit_orders() -> None:
 
 
 def additive_scrambler() -> None:
-    """additive_scrambler_bb that begins anew each so many items is a list and xor; one that goes on and takes several bits of a byte is xor with what a
-    register gives, packed."""
+    """additive_scrambler_bb that begins anew each so many items is a list and xor; one that goes on and takes several
+    bits of a byte is xor with what a register gives, packed."""
 
     def trial(chance: random.Random) -> None:
         width, count = chance.randint(1, 8), chance.choice([0, chance.randint(1, 4), chance.randint(5, 256), chance.randint(257, 600), 4096])

@@ -21,8 +21,9 @@ SETTINGS = 8
 # slower than a proved one by far.)
 SOON = 0.05
 STOPS = 5
-# A stream that is set for so many seconds, each hundredth of one or, if they are given, each second, grows by so many kilobytes at most, and has so many. A program with
-# checks has more, terabytes of addresses among it, and keeps what is let go unless it is told not to.
+# A stream that is set for so many seconds, each hundredth of one or, if they are given, each second, grows by so many
+# kilobytes at most, and has so many. A program with checks has more, terabytes of addresses among it, and keeps what is
+# let go unless it is told not to.
 LONG, PAUSE = (float(os.environ["SPOKEN_SECONDS"]), 1) if "SPOKEN_SECONDS" in os.environ else (4, 0.01)
 GROWTH, MOST = 16384, 32768
 KEEPS_NOTHING = {"ASAN_OPTIONS": "quarantine_size_mb=0:thread_local_quarantine_size_kb=0"}
@@ -359,8 +360,8 @@ def gone(program, folder):
 
 
 def readme(program, folder):
-    """What README shows of a stream that is set comes as it stands there, and records what the filter's equation gives, by one list of taps up to its item 5000 and another
-    from there on."""
+    """What README shows of a stream that is set comes as it stands there, and records what the filter's equation gives,
+    by one list of taps up to its item 5000 and another from there on."""
     top = pathlib.Path(__file__).resolve().parents[2]
     shown = (top / "README.md").read_text(encoding="utf-8").partition('$ echo "set low')
     lines = (shown[1] + shown[2]).partition("\n```")[0].splitlines()

@@ -1,6 +1,7 @@
 #!/usr/bin/env python3
-"""Live runs of graphs that are drawn by chance, by the program whose words are given: pieces of the tapes, settings, closes, levels and lines that are refused come in an
-order of chance, and a script that makes the same calls at the items of the replies gives what streams. Prints what is wrong."""
+"""Live runs of graphs that are drawn by chance, by the program whose words are given: pieces of the tapes, settings,
+closes, levels and lines that are refused come in an order of chance, and a script that makes the same calls at the
+items of the replies gives what streams. Prints what is wrong."""
 
 import os
 import pathlib
@@ -23,7 +24,8 @@ OTHERS = [("keep_one_in_n", "n", 1, 4), ("delay", "n", 0, 30), ("skiphead", "n",
 
 
 class Drawn:
-    """A graph of one source or two, each with a chain of blocks behind it, which are joined or not, and a sink behind each chain."""
+    """A graph of one source or two, each with a chain of blocks behind it, which are joined or not, and a sink behind
+    each chain."""
 
     def __init__(self, seed):
         self.chance = random.Random(seed)
@@ -162,7 +164,8 @@ class Talk:
         return {sink: [int(item) for item in reply.split()[2:]] for sink, reply in zip(self.graph.sinks, replies[len(lines) :])}
 
     def finish(self, program):
-        """It ends by itself once the producers do, or by a stop, and what streamed is what the script reads, or a beginning of it."""
+        """It ends by itself once the producers do, or by a stop, and what streamed is what the script reads, or a
+        beginning of it."""
         # (where one of two that are joined is closed, it may have ended)
         is_stopped = self.chance.random() < 0.3 and not (self.graph.is_joined and self.closed)
         if is_stopped:

@@ -20,8 +20,8 @@ DRAWN = (5, 7, 8, 11, 12, 20, 21, 24, 25, 26)
 
 @dataclass(frozen=True)
 class GraphFile:
-    """A text that can be drawn, with the tables of its blocks and connections. (The library tells no parameters of blocks, and nothing of a graph that it refuses: they are
-    read out of the text.)"""
+    """A text that can be drawn, with the tables of its blocks and connections. (The library tells no parameters of
+    blocks, and nothing of a graph that it refuses: they are read out of the text.)"""
 
     text: str
     blocks: list[dict[str, Any]]

@@ -135,7 +135,8 @@ class Page:
             await asyncio.sleep(max(FRAME - (loop.time() - began), FRAME / 4))
 
     def _shown(self, name: str) -> Any:
-        """What a view would show now: it is another where a frame has something new. A run shows nothing before the page is told of its graph."""
+        """What a view would show now: it is another where a frame has something new. A run shows nothing before the
+        page is told of its graph."""
         view, run = self._views.get(name), self._studio.run
         if run.number != self._number:
             return None

@@ -39,7 +39,8 @@ class Profile:
         self.shown: dict[str, Any] = {"blocks": {}, "fills": []}
 
     def counts(self, name: str) -> Counts:
-        """How far a block is. (The library tells it of the first input: of the others a firing takes as many times more as its rates say.)"""
+        """How far a block is. (The library tells it of the first input: of the others a firing takes as many times more
+        as its rates say.)"""
         levels = self._stream.levels(name)
         takes = self._takes[name]
         return Counts([levels.taken * it // takes[0] for it in takes], [levels.given] * self._outputs[name])
@@ -84,7 +85,8 @@ class Profile:
         self.shown = {"blocks": {name: self._block(name) for name in self._outputs}, "fills": [list(it) for it in zip(fills, self._rooms)]}
 
     def _block(self, name: str) -> dict[str, Any]:
-        """The share of a block in the work of all, and how many items it takes and gives for each item that comes through an input of the run."""
+        """The share of a block in the work of all, and how many items it takes and gives for each item that comes
+        through an input of the run."""
         fed = sum(self._given[it][0] for it in self._inputs)
         taken, given = ([count / fed if fed else 0.0 for count in it[name]] for it in (self._taken, self._given))
         return {"share": self._seconds[name] / (sum(self._seconds.values()) or 1.0), "takes": taken, "gives": given}

@@ -125,8 +125,8 @@ class Run(threading.Thread):
         return made.at
 
     def fire(self, block: str, count: int) -> dict[str, Any]:
-        """Has a block of a paused run fire so often at most, a source over what comes next; and gives how often it did, and of each input and output the first item that
-        this took or gave, and how many."""
+        """Has a block of a paused run fire so often at most, a source over what comes next; and gives how often it did,
+        and of each input and output the first item that this took or gave, and how many."""
         if self.state != PAUSED:
             raise ValueError("a block fires by itself only while the run is paused")
         it = self.inputs.get(block)
