@@ -385,6 +385,27 @@ def companding() -> None:
         compare(own, drawn("vocoder_%s_decode_bs" % name, {}, [fed], [Port("short")]), [fed], [Port("short")])
 
 
+class Chunks(gr.hier_block2):
+    """GNU Radio's table, whose values are floats, and ints of them."""
+
+    def __init__(self, type: str, values: Sequence[int]) -> None:
+        super().__init__("chunks", gr.io_signature(1, 1, SIZES[type]), gr.io_signature(1, 1, SIZES["int"]))
+        self.connect(self, getattr(digital, "chunks_to_symbols_%sf" % LETTERS[type])(values, 1), blocks.float_to_int(1, 1), self)
+
+
+def chunks() -> None:
+    """chunks_to_symbols is table, behind a convert to bytes where it takes shorts or ints."""
+
+    def trial(chance: random.Random) -> None:
+        type, values = typed(chance), [chance.randint(-(2**23), 2**23) for _ in range(chance.randint(1, 256))]
+        fed = Stream(type, [chance.randrange(len(values)) for _ in range(chance.randint(1, 300))])
+        kinds = [] if type == "byte" else [Kind("convert", {"type": type, "to": "byte"})]
+        kinds.append(Kind("table", {"to": "int", "values": values}))
+        compare(Chunks(type, values), row(kinds, fed, Port("int")), [fed], [Port("int")])
+
+    each(trial)
+
+
 def encoding() -> None:
     """The encoders of mu-law and A-law give the bytes of all shorts, but for those from -7 to -1 by the A-law, which
     have another byte there."""

@@ -10,7 +10,7 @@ set -euo pipefail
 source "$(dirname -- "$(readlink -f -- "${BASH_SOURCE[0]}")")/../part.sh"
 
 cases=(beside_flow beside_blocks inputs_end inputs_lack graph_ends output_ends stopped tags_after_a_stop stalls refused tags tag_refused settings taps fed_by_file memory companion pages)
-own=(block_interleaver matrix_interleaver permutation patterned_interleaver stream_demux deinterleave puncture depuncture endian_swap short_to_char companding encoding selector
+own=(block_interleaver matrix_interleaver permutation patterned_interleaver stream_demux deinterleave puncture depuncture endian_swap short_to_char companding chunks encoding selector
     sample_and_hold tag_share tag_gate delay probe_signal ccsds_encoder encoders bit_orders additive_scrambler access_code vectors)
 endless=(shift_registers noise_of_the_usrp waves uniform noise)
 television=(energy branches inner_coder inner_interleaver frames packet_frames)
