@@ -1,14 +1,13 @@
 #!/usr/bin/env bash
-# The packages for Debian that ./build --deb has made of these sources, in a fresh Debian of their own without the
-# toolchain: README's first command on the example that they bring, the program of docs/user/C.md in C, the package for
-# Python, the receiver in the page of magbelu-studio, the block of GNU Radio, and that nothing of them stays. It takes
-# root, debootstrap and some minutes of a network, so ./test tries it by its name alone. What debootstrap brings is kept
-# at $MAGBELU_DEBIAN for a next run, where that names a folder.
+# The packages for Debian that ./build --deb has made of these sources, in a fresh Debian of their own without the toolchain: README's first command on the example
+# that they bring, the program and the library for this processor, the program of docs/user/C.md in C, the package for Python, the receiver in the page of
+# magbelu-studio, the block of GNU Radio, and that nothing of them stays. It takes root, debootstrap and some minutes of a network, so ./test tries it by its name
+# alone. What debootstrap brings is kept at $MAGBELU_DEBIAN for a next run, where that names a folder.
 set -euo pipefail
 # shellcheck source=tests/part.sh
 source "$(dirname -- "$(readlink -f -- "${BASH_SOURCE[0]}")")/../part.sh"
 
-cases=(lintian_is_silent first_command_runs program_in_c_runs python_runs drawing_is_converted page_shows_the_receiver block_of_gnuradio_runs nothing_stays)
+cases=(lintian_is_silent first_command_runs processor_decides program_in_c_runs python_runs drawing_is_converted page_shows_the_receiver block_of_gnuradio_runs nothing_stays)
 # What the machine itself has, of which a fresh system may be made.
 suite=$(sed -n 's/^VERSION_CODENAME=//p' /etc/os-release)
 
@@ -89,6 +88,20 @@ first_command_runs() {
     grep -qxF "\$ flow run $examples/echo/graph.toml" "$top/docs/user/FOR_GNU_RADIO_USERS.md"
     gives "$(<"$top/examples/echo/expected_run")" flow run "$examples/echo/graph.toml"
     gives "$(grep -h recording "$top/examples/signal/SHA256SUMS")" sh -c "cd /root && $examples/signal/make.py recording recording.s16 && sha256sum recording.s16"
+}
+
+# The program tells the level of this machine's processor, and the loader takes the library for it.
+processor_decides() {
+    local level said library=libmagbelu.so.1
+    # shellcheck source=scripts/levels.sh
+    level=$(source "$top/scripts/levels.sh" && level_here)
+    [[ $level == x86-64-v2 ]] || library=glibc-hwcaps/$level/$library
+    said=$(beside_processes flow --version)
+    [[ $said == "flow "*" ($level)" ]] || { echo "--version says: $said" && return 1; }
+    said=$(beside_processes python3 -c 'import magbelu
+magbelu.Graph(magbelu.EXAMPLE)
+print(open("/proc/self/maps").read())')
+    [[ $said == *"/x86_64-linux-gnu/$library"* ]] || { echo "Python loads another library: $said" && return 1; }
 }
 
 program_in_c_runs() {
