@@ -22,6 +22,8 @@ TOP = Path(__file__).resolve().parent.parent
 RANGES = {"byte": (0, 255), "short": (-32768, 32767), "int": (-(2**31), 2**31 - 1)}
 LETTERS = {"byte": "b", "short": "s", "int": "i"}
 SIZES = {"byte": gr.sizeof_char, "short": gr.sizeof_short, "int": gr.sizeof_int}
+# How many cases run as one graph, so that the program need not start for each: a graph has 256 blocks, and a case up to 7.
+TOGETHER = 36
 
 
 class Case(NamedTuple):
@@ -311,20 +313,16 @@ KINDS: Dict[str, Tuple[Callable[[Draw, str], Case], Tuple[str, ...]]] = {
 }
 
 
-def graph_of(case: Case) -> str:
-    """The graph file of a case, fed."""
+def graph_of(case: Case, front: str = "") -> str:
+    """The graph file of a case, fed, where all names have this in front of them."""
     item = case.item or "byte"
-    kind = (
-        f'[[block]]\nname = "f"\nkind = "{case.kind}"\n'
-        + (f'type = "{case.item}"\n' if case.item else "")
-        + (case.keys + "\n" if case.keys else "")
-    )
-    text = [kind, f'[[block]]\nname = "out"\nkind = "vector_sink"\ntype = "{case.to or item}"\n']
+    kind = f'[[block]]\nname = "{front}f"\nkind = "{case.kind}"\n' + (f'type = "{case.item}"\n' if case.item else "") + (case.keys + "\n" if case.keys else "")
+    text = [kind, f'[[block]]\nname = "{front}out"\nkind = "vector_sink"\ntype = "{case.to or item}"\n']
     for port, tape in enumerate(case.inputs):
-        text.append(f'[[block]]\nname = "s{port}"\nkind = "vector_source"\ntype = "{item}"\n')
-        text.append(f'[[feed]]\nsource = "s{port}"\nitems = {tape}\n')
-        text.append(f'[[connect]]\nfrom = "s{port}"\nto = "f"\nto_port = {port}\n')
-    text.append('[[connect]]\nfrom = "f"\nto = "out"\n')
+        text.append(f'[[block]]\nname = "{front}s{port}"\nkind = "vector_source"\ntype = "{item}"\n')
+        text.append(f'[[feed]]\nsource = "{front}s{port}"\nitems = {tape}\n')
+        text.append(f'[[connect]]\nfrom = "{front}s{port}"\nto = "{front}f"\nto_port = {port}\n')
+    text.append(f'[[connect]]\nfrom = "{front}f"\nto = "{front}out"\n')
     return "\n".join(text)
 
 
@@ -344,15 +342,16 @@ def theirs_of(case: Case) -> List[int]:
     return [int(number) for number in sink.data()]
 
 
-def ours_of(case: Case, flow: List[str], room: Path) -> List[int]:
-    """What Magbelu gives."""
+def ours_of(cases: List[Case], flow: List[str], room: Path) -> List[List[int]]:
+    """What Magbelu gives, which runs them as one graph: the names of each begin with its number."""
     path = room / "graph.toml"
-    path.write_text(graph_of(case))
+    path.write_text("\n".join(graph_of(it, f"{at}.") for at, it in enumerate(cases)))
     said = subprocess.run([*flow, "run", "-q", str(path)], capture_output=True, text=True, check=False)
-    words = next((line.split() for line in said.stdout.splitlines() if line.startswith("sink out ")), None)
-    if words is None:
-        raise SystemExit(f"{case.kind}: {said.stdout}{said.stderr}\n{graph_of(case)}")
-    return [int(word) for word in words[3:] if not word.startswith("@")]
+    lines = [line.split() for line in said.stdout.splitlines()]
+    sinks = {words[1]: [int(word) for word in words[3:] if not word.startswith("@")] for words in lines if words[:1] == ["sink"]}
+    if len(sinks) < len(cases):
+        raise SystemExit(f"{cases[0].kind}: {said.stdout}{said.stderr}")
+    return [sinks[f"{at}.out"] for at in range(len(cases))]
 
 
 def write(folder: Path, number: int, case: Case, gives: List[int]) -> None:
@@ -377,10 +376,11 @@ def main() -> int:
         for kind in words.kinds or KINDS:
             draw_case, types = KINDS[kind]
             draw = random.Random(kind)
+            cases = [draw_case(draw, types[number % len(types)]) for number in range(words.cases)]
+            given = [it for first in range(0, len(cases), TOGETHER) for it in ours_of(cases[first : first + TOGETHER], words.flow.split(), Path(room))]
             equal = 0
-            for number in range(words.cases):
-                case = draw_case(draw, types[number % len(types)])
-                theirs, ours = theirs_of(case), ours_of(case, words.flow.split(), Path(room))
+            for number, (case, ours) in enumerate(zip(cases, given)):
+                theirs = theirs_of(case)
                 if ours == theirs:
                     equal += 1
                 elif words.cases - equal < 4 or equal == number:
