@@ -6,7 +6,7 @@ set -euo pipefail
 source "$(dirname -- "$(readlink -f -- "${BASH_SOURCE[0]}")")/../part.sh"
 
 without_browser=(wrong_token other_origin this_machine_alone refused_graphs columns slow_page pipes cut_item steps pages_come_and_go ended frames_a_second memory script items_over_items trigger saved texts
-    fast counts works fires input_guarded graph_before_frames opens as_module)
+    fast counts works fires input_guarded graph_before_frames asked_meanwhile opens as_module)
 in_browser=(sinks_as_run controls markup many_blocks server_killed dragged thousand taps transforms all_views faults added_and_joined dropped saves
     keys_and_contrast works_shown firings_shown watches drops_items saves_items two_pages names_with_markup readable receiver receives_text drawn_as_draw parameters_shown
     waits_shown pointed zoomed_and_held undrawn_told)

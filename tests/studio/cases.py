@@ -8,6 +8,7 @@ import edited
 import given
 import guard
 import looked
+import paged
 import receiver
 import runs
 import shown
@@ -18,7 +19,7 @@ CASES = {
     it.__name__: it
     for it in [
         *guard.CASES, *runs.CASES, *shown.CASES, *turned.CASES, *edited.CASES, *worked.CASES, *receiver.CASES,
-        *given.CASES, *looked.CASES,
+        *given.CASES, *looked.CASES, *paged.CASES,
     ]
 }
 

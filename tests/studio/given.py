@@ -11,13 +11,10 @@ import time
 import urllib.request
 from typing import Any
 
-import aiohttp
-
 from browser import PATIENCE, TOP, Server, as_numbers, browser, choose, click, comes_to, fill, numbers_of, tags_of, text_of, until
 from guard import own_path
 from runs import SAW, THROUGH, folder_with
 from shown import logged
-from socket_page import socket_page
 
 #: Drops raw items on an element of the page.
 DROP = """
@@ -48,30 +45,6 @@ def drops_items() -> None:
             pathlib.Path(out).read_bytes() == SAW.tobytes()
             and pathlib.Path(out + ".2").read_bytes() == b"\1\0\2\0\377\377"
         )
-
-
-async def fed_anew(server: Server) -> None:
-    async with socket_page(server.address) as page, aiohttp.ClientSession() as session:
-        await page.comes_to("done")
-        await page.say(do="view", view="a", sink="out", span=16, width=16)
-        await page.frame("a", len(SAW))
-        for count in range(1, 11):
-            del page.parts["graph"]
-            address = server.address + "input/src"
-            async with session.post(address, data=bytes(2 * count), headers={"Origin": "http://127.0.0.1:%d" % server.port}) as response:
-                assert response.status == 204, response.status
-            while "a" not in page.frames:
-                await page.take()
-            # (what a page does where a graph comes undoes what was done at a frame before it)
-            assert "graph" in page.parts, count
-            await page.frame("a", count)
-
-
-def graph_before_frames() -> None:
-    """A page is told of the graph of a new run before it gets a frame of it."""
-    folder, graph, items, _ = folder_with()
-    with folder, Server("-i", "src=" + items, graph) as server:
-        asyncio.run(asyncio.wait_for(fed_anew(server), PATIENCE))
 
 
 def input_guarded() -> None:
@@ -257,4 +230,4 @@ def readable() -> None:
                 assert not driver.execute_script(script), (width, tab, driver.execute_script(script))
 
 
-CASES = [drops_items, graph_before_frames, input_guarded, saves_items, watches, two_pages, names_with_markup, readable]
+CASES = [drops_items, input_guarded, saves_items, watches, two_pages, names_with_markup, readable]
