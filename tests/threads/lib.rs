@@ -2,6 +2,7 @@
 //! seen, and that each run ends. Each waits for a bounded time at most.
 
 mod adaptive;
+mod asked;
 mod callers;
 mod desks;
 mod drawn;

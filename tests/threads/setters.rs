@@ -23,9 +23,9 @@ const RUNS: u64 = 60;
 // Between its sources and its sinks a graph has no more blocks.
 const MOST_BLOCKS: u64 = 3;
 
-// The graph of a seed, in which blocks that would turn bits have a setting, and so has each other with one input and
-// one output by chance.
-fn graph_of(alloc: Global, seed: u64) -> Result<Graph, AllocError> {
+/// The graph of a seed, in which blocks that would turn bits have a setting, and so has each other with one input and
+/// one output by chance.
+pub fn graph_of(alloc: Global, seed: u64) -> Result<Graph, AllocError> {
     let mut graph = drawn_graph(alloc, seed, MOST_BLOCKS)?;
     let mut chance = Chance::new(seed + 2_000);
     for make in &mut graph.makes {
