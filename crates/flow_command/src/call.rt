@@ -1,7 +1,7 @@
 //! A call of a command on a graph file.
 
 ghost use Rattle.std.specs.Prelude.{◌≡◌, ◌&&◌, ◌||◌, not, if◌then◌else◌, is_some};
-ghost use Rattle.flow_core.specs.declared.serve.Verbosity.TheVariants.{WithNotes, Quiet};
+ghost use Rattle.flow_core.specs.declared.stalls.Verbosity.TheVariants.{WithNotes, Quiet};
 
 use super::ends::{Ends, EndsFault};
 use super::slice::Slice;
@@ -9,8 +9,8 @@ use super::stretch::Stretch;
 use super::talk::Talk;
 use clap::ArgMatches;
 use drawings::Format;
-use flow_core::serve::{Action, Verbosity};
-use flow_core::threading::Threading;
+use flow_runs::serve::{Action, Verbosity};
+use flow_runs::threading::Threading;
 use run_stats::Form;
 use std::alloc::Global;
 

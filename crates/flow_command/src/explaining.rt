@@ -3,7 +3,7 @@
 use crate::words::Call;
 use byte_io::ByteIn;
 use diagnostics::{KeptLines, at_device, explain};
-use flow_core::serve::Action;
+use flow_runs::serve::Action;
 use graph_file::Depth;
 use std::io::Error;
 

@@ -7,7 +7,7 @@ use crate::rest::Rest;
 use crate::speaking::{Speech, lines_of};
 use crate::stops::{Stop, Stream, stop_of};
 use crate::words::Call;
-use flow_core::serve::Action;
+use flow_runs::serve::Action;
 use helper_threads::HelperThreads;
 use kinds::Kind;
 use pipeline::{AllReady, Ended, NoRequests, PipelineFault, Readiness, Requests};

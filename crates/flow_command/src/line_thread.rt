@@ -3,8 +3,6 @@
 use crate::line_calls::{Blocks, Said, reply_to};
 use crate::speaking::{Control, Speech};
 use crate::stops::Stop;
-use flow_core::fault::Fault;
-use flow_core::raw_fault::RawFault;
 use request_box::Caller;
 use std::alloc::{AllocError, Global};
 use std::io::Read;
@@ -91,7 +89,7 @@ impl<R: Threads + Wait + Copy + Send + 'static> LineThread<R> {
         let mut speaker = speaker;
         match thread::spawn(&rt, move || speaker.answer_all(&rt, alloc, &theirs)) {
             Ok(_handle) => Ok(LineThread { rt, hand }),
-            Err(_) => Err(Stop::from(RawFault::Whole(Fault::Run(RunError::Thread)))),
+            Err(_) => Err(Stop::Run(RunError::Thread)),
         }
     }
 }

@@ -28,8 +28,9 @@ use flow_core::raw_fault::{EndFault, EndPlace, RawFault};
 use flow_core::refusal_line::report_raw;
 use flow_core::reports::stream_report;
 use flow_core::script::ScriptFault;
-use flow_core::serve::{Action, Verbosity};
 use flow_core::stalls::explain_stall;
+use flow_runs::fault::ServeFault;
+use flow_runs::serve::{Action, Verbosity};
 use flowgraph::BlockId;
 use kinds::Kind;
 use pipeline::{End, Ended, Pipeline, Settled};
@@ -101,7 +102,10 @@ fn part_of<'a, R: Threads + Copy>(
 
 // Tells why the run stopped, and returns the exit status.
 fn tell_stop(rt: &HostRuntime, call: &Call<'_>, file: &[u8], stop: Stop) -> u8 {
-    let Stop { fault, reason } = stop;
+    let (fault, reason) = match stop {
+        Stop::Raw { fault, reason } => (fault, reason),
+        Stop::Run(error) => return tell_failed(rt, ServeFault::Run(error)),
+    };
     let status = match unread_name(&fault, &reason, &call.ends) {
         Some(name) => tell_gone(rt, call, name),
         None => {
@@ -117,6 +121,14 @@ fn tell_stop(rt: &HostRuntime, call: &Call<'_>, file: &[u8], stop: Stop) -> u8 {
         explain(rt, call, file, &fault, reason);
     }
     status
+}
+
+// Tells that a thread failed, and returns the exit status.
+fn tell_failed(rt: &HostRuntime, fault: ServeFault) -> u8 {
+    let mut errors = buffered(rt.alloc(), rt.stderr());
+    fault.report("", &mut errors);
+    let _ = errors.writer.flush();
+    fault.status()
 }
 
 // Runs, and returns the run if it stalled. An input that ended within an item is told last, since all that came of the
@@ -251,7 +263,7 @@ fn write_kept<R: Drop>(rt: &HostRuntime, run: &Stream<R>, kept: Vec<Kept>) -> Re
         lines.clear();
         push_tag_lines(&mut lines, &piece.tags)?;
         if let Err(error) = write_whole(&mut target, &lines) {
-            return Err(Stop {
+            return Err(Stop::Raw {
                 fault: RawFault::End(EndPlace::Tags(number), EndFault::Write),
                 reason: Some(error),
             });
@@ -282,7 +294,7 @@ fn tell<R: Drop>(
     };
     match written {
         Ok(()) => Ok(()),
-        Err(error) => Err(Stop {
+        Err(error) => Err(Stop::Raw {
             fault: RawFault::Whole(Fault::Script(ScriptFault::Write)),
             reason: Some(error),
         }),

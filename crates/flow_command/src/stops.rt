@@ -14,20 +14,26 @@ use pipeline::{End, Pipeline, PipelineFault, PlantFault};
 use reader_threads::ApartReader;
 use std::alloc::AllocError;
 use std::io::{Error, ErrorKind};
+use threads::RunError;
 
 /// A run between files.
 pub type Stream<R> = Pipeline<Kind, ApartReader<Chain, R>, Target>;
 
-/// Why a run stops, and why a device failed, if one did.
+/// Why a run stops.
 #[derive(Drop)]
-pub struct Stop {
-    pub fault: RawFault,
-    pub reason: Option<Error>,
+pub enum Stop {
+    /// By a fault of the run with raw items, and why a device failed, if one did.
+    Raw {
+        fault: RawFault,
+        reason: Option<Error>,
+    },
+    /// By a thread.
+    Run(RunError),
 }
 
 impl From<RawFault> for Stop {
     fn from(fault: RawFault) -> Stop {
-        Stop {
+        Stop::Raw {
             fault,
             reason: None,
         }
@@ -46,7 +52,7 @@ pub fn unopened(error: Error, place: EndPlace, fault: EndFault) -> Stop {
         ErrorKind::OutOfMemory => RawFault::Whole(Fault::Script(ScriptFault::Memory)),
         _ => RawFault::End(place, fault),
     };
-    Stop {
+    Stop::Raw {
         fault,
         reason: Some(error),
     }
@@ -90,7 +96,7 @@ pub fn stop_of<R: Drop>(run: &Stream<R>, ends: &Ends<'_>, fault: PipelineFault) 
             (EndPlace::Tags(number), EndFault::Write, Some(error))
         }
     };
-    Stop {
+    Stop::Raw {
         fault: RawFault::End(place, fault),
         reason,
     }

@@ -44,7 +44,7 @@ impl Targets {
 
 // Why a run stops if a write to the output at this place failed.
 fn unwritten(place: EndPlace, error: io::Error) -> Stop {
-    Stop {
+    Stop::Raw {
         fault: RawFault::End(place, EndFault::Write),
         reason: Some(error),
     }

@@ -4,7 +4,7 @@ use crate::lengths::{are_files, has_input, lengths_of_inputs, size_at};
 use crate::slicing::{asks_for, plan_of, test_ends};
 use crate::uncut::Uncut;
 use crate::words::Call;
-use flow_core::serve::Action;
+use flow_runs::serve::Action;
 use flowgraph::{BlockId, Valid};
 use kinds::Kind;
 use slices::Plan;

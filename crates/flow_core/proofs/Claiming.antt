@@ -1,27 +1,29 @@
 -- Kept jobs, as calls leave them.
-use Rattle.std.proofs.Common.{◌≡◌, ◌≢◌, ℕ, ◌<◌, Bool, true, false, List, length, set, Option, Some, None, refl, sym, ap, ◌∙◌, subst, arith, inl, length-set, get_or, eqb-true}
-use Rattle.std.specs.Prelude.{◌==◌, replicate}
+use Rattle.std.proofs.Common.{◌≡◌, ◌≢◌, ℕ, ◌<◌, Bool, true, false, List, length, set, Option, Some, None, refl, sym, ap, ◌∙◌, subst, arith, inl, inr, length-set, get_or, eqb-true}
+use Rattle.std.specs.Prelude.{◌==◌, ◌&&◌, nat_lt, replicate}
 use Rattle.std.specs.Cmp.{IsEquivalence}
 use Rattle.std.specs.Prelude.{nat_eq}
+use Rattle.std.proofs.lemmas.Bool.{and_from, lt-ltb}
 use Rattle.std.proofs.lemmas.Cmp.{nat_eq_equiv}
 use Rattle.std.proofs.lemmas.List.{get_or-set_same, get_or-set_other, map-set, set-get_or, get_or_default, length-map}
 use Rattle.std.proofs.Math.ListN.{get_or-map}
+use Rattle.std.proofs.lemmas.Option.{slice_get_cases}
 use Rattle.std.proofs.lemmas.Simd.{splat_is_map}
 use Rattle.numbers.proofs.Mapped.{map_replicate}
 use Rattle.stream_model.specs.Meaning.{Meaning}
 use Rattle.stream_model.specs.Network.{Network, State, Progress, progress_at, no_progress}
 use Rattle.stream_model.specs.Machine as machine
-use Rattle.stream_model.specs.Machine.{Capacities, Call, Job, Reply, with_progress, next, abandon_of}
+use Rattle.stream_model.specs.Machine.{Capacities, Call, Job, Reply, with_progress, next, abandon_of, commit_of, is_in_flight, job_of, jobs_agree}
 use Rattle.stream_laws.specs.CanRun.{CanRun}
 use Rattle.machine_laws.specs.Sound.{Sound}
 use Rattle.machine_laws.specs.Stays.{in_flight, gives_back}
+use Rattle.machine_laws.proofs.Agreeing.{jobs_agree-same}
 use Rattle.flowgraph.specs.Flowgraph.{Flowgraph, net_of, node_of}
 use Rattle.claimed_work.specs.Jobs.{JobState}
 use Rattle.plant.specs.Own.{is_own}
 use Rattle.plant.specs.Answers.{takes_memory}
 use Rattle.script_text.specs.Replies.{line_text, claimed_text}
 use Rattle.plant.specs.Plant.{PlantState}
-use Rattle.threads.proofs.Owned.{claimed_flies, commits, in_flight_is, own_is}
 use Rattle.flow_core.specs.Session.{SessionState, KeepsJobs, IsFlying, Gives, is_there, kept_in, kept_by, told, give_back, reply_line, none_kept}
 use Rattle.machine_laws.proofs.Claiming.{claims}
 use Rattle.flow_core.proofs.Flying.{Leaves, block_of, call_leaves}
@@ -70,17 +72,21 @@ one_at jobs b d x in' e = get_or_default jobs b None d in' ∙ sym e
 -- a call that gives a claim back: one in flight is not refused
 pub record GivesBack (net : Network) (caps : Capacities) (st : State) (call : Bool → Job → Call) : Type 0 where
   pub block : (own : Bool) (job : Job) (b : ℕ) → gives_back b (call own job) ≡ (job.block == b)
-  pub taken : (b : ℕ) → b < length net.nodes → 0 < (progress_at st.progress b).claimed → (next net caps st (call true (in_flight net st b))).0 ≢ machine.Refused machine.foreign
+  pub taken : (job : Job) → is_in_flight net st true job ≡ true → (next net caps st (call true job)).0 ≢ machine.Refused machine.foreign
 
-abandons : (net : Network) (st : State) (b : ℕ) → b < length net.nodes → 0 < (progress_at st.progress b).claimed → (abandon_of net st true (in_flight net st b)).0 ≡ machine.Abandoned
+commits : (net : Network) (st : State) (job : Job) → is_in_flight net st true job ≡ true → (commit_of net st true job).0 ≡ machine.Did (progress_at st.progress job.block).claimed
+unfolding commit_of
+commits net st job flies = rw flies refl
+
+abandons : (net : Network) (st : State) (job : Job) → is_in_flight net st true job ≡ true → (abandon_of net st true job).0 ≡ machine.Abandoned
 unfolding abandon_of
-abandons net st b in' some = let yes = in_flight_is net st b in' some in rw yes refl
+abandons net st job flies = rw flies refl
 
 pub commit_gives_back : (net : Network) (caps : Capacities) (st : State) → GivesBack net caps st machine.Commit
-commit_gives_back net caps st = record { block = λ own job b. refl; taken = λ b in' some e. let is = sym (commits net st b in' some) ∙ e in cc }
+commit_gives_back net caps st = record { block = λ own job b. refl; taken = λ job flies e. let is = sym (commits net st job flies) ∙ e in cc }
 
 pub abandon_gives_back : (net : Network) (caps : Capacities) (st : State) → GivesBack net caps st machine.Abandon
-abandon_gives_back net caps st = record { block = λ own job b. refl; taken = λ b in' some e. let is = sym (abandons net st b in' some) ∙ e in cc }
+abandon_gives_back net caps st = record { block = λ own job b. refl; taken = λ job flies e. let is = sym (abandons net st job flies) ∙ e in cc }
 
 -- what is answered where no job is kept
 none_back : {J : Type 0} (jobs : List (Option J)) (st : State) (b : ℕ) (now : Reply × State) (line : List ℕ) → get_or jobs b None ≡ None → line ≡ reply_line (machine.Refused machine.foreign) →
@@ -125,7 +131,12 @@ module _ {B : Type 0} (net : Network) (caps : Capacities) (st : State) (can : Ca
     given_block = ap (λ (j : Job). j.block) flies.flight ∙ block_of net st b (progress_at st.progress b).claimed
 
     own_block : (eq : B → B → Bool) → IsEquivalence eq → b < length graph.blocks → is_own eq graph job.graph job.job.block ≡ true
-    own_block eq laws low = rw (flies.graph_is, given_block) (own_is eq laws graph b low)
+    own_block eq laws low =
+        rw (flies.graph_is, given_block)
+        (elim (slice_get_cases graph.blocks b).1 [
+          | inl found ↦ (let e = found.2 in rw e (laws.refl found.0.block))
+          | inr past ↦ absurd (let edge = past.0 in omega (arith, low, edge))
+        ])
 
     module _ (call : Bool → Job → Call) (back : GivesBack net caps st call) (own : Bool) where
       back_keeps : KeepsJobs net graph (next net caps st (call own job.job)).1 (set jobs b None)
@@ -137,7 +148,12 @@ module _ {B : Type 0} (net : Network) (caps : Capacities) (st : State) (can : Ca
       back_is same = ap (λ o. next net caps st (call o job.job)) same ∙ ap (λ j. next net caps st (call true j)) flies.flight
 
       back_comes : own ≡ true → (next net caps st (call own job.job)).0 ≡ machine.Refused machine.foreign → ⊥
-      back_comes same e = back.taken b inside flies.some (ap (λ r. r.0) (sym (back_is same)) ∙ e)
+      unfolding job_of
+      back_comes same e =
+          let count = (progress_at st.progress b).claimed in
+          let there = and_from (nat_lt b (length net.nodes)) (nat_lt 0 count) (lt-ltb b (length net.nodes) inside) (lt-ltb 0 count flies.some) in
+          let flying = and_from (nat_lt b (length net.nodes) && nat_lt 0 count) (jobs_agree (in_flight net st b) (job_of net st b count)) there (jobs_agree-same (in_flight net st b) (in_flight net st b) refl) in
+          back.taken (in_flight net st b) flying (ap (λ r. r.0) (sym (back_is same)) ∙ e)
 
   -- a claim that claims nothing leaves all claims
   pub claim_keeps : (max : ℕ) (after : State) → after ≡ (next net caps st (machine.Claim b max)).1 → KeepsJobs net graph after jobs
@@ -147,17 +163,20 @@ module _ {B : Type 0} (net : Network) (caps : Capacities) (st : State) (can : Ca
   -- and one that claims is kept
   pub claimed_keeps : (max : ℕ) (after : State) (job : JobState B) → job.graph ≡ graph → machine.Claimed job.job ≡ (next net caps st (machine.Claim b max)).0 → after ≡ (next net caps st (machine.Claim b max)).1 →
       KeepsJobs net graph after (set jobs b (Some job))
+  unfolding job_of
   claimed_keeps max after job own is e =
       let does = claims net caps st b max job.job (sym is) in
       let to : after ≡ with_progress st b (record (progress_at st.progress b) { claimed = does.count }) = e ∙ does.state in
       let low : b < length st.progress = (let n = sound.progress_count in let i = inside in omega (arith, n, i)) in
       let now : progress_at after.progress b ≡ record (progress_at st.progress b) { claimed = does.count } =
       ap (λ (s : State). progress_at s.progress b) to ∙ get_or-set_same st.progress b (record (progress_at st.progress b) { claimed = does.count }) no_progress low in
+      let flies : in_flight net (with_progress st b (record (progress_at st.progress b) { claimed = does.count })) b ≡ job_of net st b does.count =
+      (let s = get_or-set_same st.progress b (record (progress_at st.progress b) { claimed = does.count }) no_progress low in rw s refl) in
       let count : (progress_at after.progress b).claimed ≡ does.count = ap (λ (p : Progress). p.claimed) now in
       keeps_set net graph st after jobs keeps b (Some job) in'
       (λ c in'' other. subst (λ s. Leaves net st s c) (sym e) (call_leaves net caps st can sound (machine.Claim b max) c in'' refl))
       (λ j same. subst (IsFlying net graph after b) (let eq : Some job ≡ Some j = same in cc)
-      (record { graph_is = own; some = (let k = does.some in omega (arith, count, k)); flight = does.job_is ∙ sym (ap (λ s. in_flight net s b) to ∙ claimed_flies net st b does.count low) }))
+      (record { graph_is = own; some = (let k = does.some in omega (arith, count, k)); flight = does.job_is ∙ sym (ap (λ s. in_flight net s b) to ∙ flies) }))
 
 -- What a command leaves that gives the claim of a block's kept job back.
 module _ {B : Type 0} (meaning : B → Meaning) (plant : PlantState B) (runs : CanRun (net_of meaning plant.graph)) (sound : Sound (net_of meaning plant.graph) plant.capacities plant.state)

@@ -1,6 +1,4 @@
-mod Agreeing
 mod Descents
-mod Desks
 pub mod RawFeeds
 pub mod FedBytes
 pub mod HeldPieces
@@ -10,7 +8,6 @@ pub mod Flying
 pub mod Sessions
 pub mod Settings
 pub mod Leaving
-pub mod Lines
 pub mod Naming
 pub mod Askable
 pub mod Claiming

@@ -1,4 +1,3 @@
-pub mod AtDesk
 pub mod Session
 pub mod Script
 pub mod Faults
@@ -6,7 +5,6 @@ pub mod Reports
 pub mod Stalls
 pub mod Serve
 pub mod Starts
-pub mod Threads
 pub mod RawFaults
 pub mod RawFeeds
 pub mod RawEnds

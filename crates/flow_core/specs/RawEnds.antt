@@ -17,7 +17,7 @@ use Rattle.byte_io.specs.Ends.{AppendsBeginning}
 use Rattle.script_text.specs.Replies.{line_text}
 pub use Rattle.script_text.specs.Replies.{tag_line}
 use Rattle.script_text.specs.Reports.{sink_text}
-use Rattle.top_block.specs.Closing.{closed}
+use Rattle.closing.specs.Closing.{closed}
 use Rattle.flow_core.specs.declared.fault.Fault.TheVariants.{Script}
 use Rattle.flow_core.specs.declared.script.ScriptFault.TheVariants as script
 use Rattle.flow_core.specs.declared.raw_fault.EndFault.{EndFault}

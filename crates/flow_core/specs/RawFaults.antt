@@ -2,10 +2,9 @@
 use Rattle.std.specs.Prelude.{ℕ, List, [], ◌++◌, codes}
 use Rattle.std.specs.Fmt.{decimal}
 use Rattle.refusal_codes.specs.Texts.{head}
-use Rattle.script_text.specs.Replies.{line_text}
 use Rattle.plant.specs.declared.fault.PlantFault.TheVariants as plant
 use Rattle.plant.specs.Fault as plants
-use Rattle.flow_core.specs.Faults.{row_of, fault_text, found_in, status_of}
+use Rattle.flow_core.specs.Faults.{row_of, fault_text, status_of, stop_line}
 use Rattle.flow_core.specs.declared.raw_fault.EndFault.{EndFault}
 use Rattle.flow_core.specs.declared.raw_fault.EndFault.TheVariants.{NoSuchBlock, NotSource, NotSink, Closed, TapeFull, Read, Write, CutItem, BadLine, TagPlace}
 use Rattle.flow_core.specs.declared.raw_fault.EndPlace.{EndPlace}
@@ -60,7 +59,7 @@ raw_fault_text (End place fault) = head (end_row fault) ++ place_text place ++ l
 
 -- the line that tells a fault, found in what has that name
 abbrev pub raw_fault_line : List ℕ → RawFault → List ℕ
-raw_fault_line name fault = line_text (codes "flow: refused " ++ raw_fault_text fault ++ found_in name)
+raw_fault_line name fault = stop_line (raw_fault_text fault) name
 
 -- the exit status that it brings: 4 for devices
 abbrev pub end_status_of : EndFault → ℕ

@@ -10,7 +10,7 @@ use script_text::Command;
 use std::alloc::{AllocError, Global};
 
 /// Answers commands. If it has to wait, it waits by a handle.
-pub(crate) trait Answerer<H> {
+pub trait Answerer<H> {
     // How a command is answered: what was asked, the state before and after, and the line.
     ghost answers: { Asked → Self → Self → List ℕ → Type 0 };
 

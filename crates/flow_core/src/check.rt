@@ -29,11 +29,7 @@ pub fn check<O: ByteOut>(alloc: Global, file: &[u8], output: &mut O) -> Result<u
 }
 
 /// Writes the report on the graph of a file, if its feeds fit the tapes, and returns the status.
-pub(crate) fn check_feeds<O: ByteOut>(
-    alloc: Global,
-    file: &[u8],
-    output: &mut O,
-) -> Result<u8, Fault>
+pub fn check_feeds<O: ByteOut>(alloc: Global, file: &[u8], output: &mut O) -> Result<u8, Fault>
     requires writes { O.failed output.old < 2 ^ 64 - 1 }
     ensures does { IfOk result (Writes (IsCheckOfFeeds file.now) (O.contents output.old) (O.contents output.new)) }
     ensures does_not { IfErr result (WritesNot (IsCheckOfFeeds file.now) (plant_in file.now) (O.contents output.old) (O.contents output.new)) }

@@ -25,27 +25,27 @@ const STALLED: u8 = 3;
 
 /// What a finished command gives: the text to write, and its exit status.
 #[derive(Drop)]
-pub(crate) struct CommandOutput {
-    pub(crate) text: Vec<u8>,
-    pub(crate) status: u8,
+pub struct CommandOutput {
+    pub text: Vec<u8>,
+    pub status: u8,
 }
 
 /// What a run that came to rest gives, and its plant if it stalled.
 #[derive(Drop)]
-pub(crate) struct RunOutput {
-    pub(crate) given: CommandOutput,
-    pub(crate) stalled: Option<Plant<Kind>>,
+pub struct RunOutput {
+    pub given: CommandOutput,
+    pub stalled: Option<Plant<Kind>>,
 }
 
 /// How a command ended, after its text was written: its exit status, and the plant of a run that stalled.
 #[derive(Drop)]
-pub(crate) struct CommandEnd {
-    pub(crate) status: u8,
-    pub(crate) stalled: Option<Plant<Kind>>,
+pub struct CommandEnd {
+    pub status: u8,
+    pub stalled: Option<Plant<Kind>>,
 }
 
 /// What a run gives after its plant settled like this.
-pub(crate) fn run_output(
+pub fn run_output(
     alloc: Global,
     plant: Plant<Kind>,
     settled: Settled,
@@ -91,7 +91,7 @@ pub(crate) fn write_output<O: ByteOut>(output: &mut O, given: &CommandOutput) ->
 }
 
 /// Writes what a run gives, and returns its status, with its plant if it stalled.
-pub(crate) fn write_run<O: ByteOut>(output: &mut O, ran: RunOutput) -> Result<CommandEnd, Fault>
+pub fn write_run<O: ByteOut>(output: &mut O, ran: RunOutput) -> Result<CommandEnd, Fault>
     requires { O.failed output.old < 2 ^ 64 - 1 }
     ensures ok { IfOk result (λ ended. (ended.status ≡ ran.given.status) × (ended.stalled ≡ ran.stalled) × Appends (O.contents output.old) (O.contents output.new) ran.given.text.items) }
     ensures err { IfErr result (λ fault. (fault ≡ Script Write) × AppendsBeginning (O.contents output.old) (O.contents output.new) ran.given.text.items) }

@@ -15,7 +15,7 @@ use rates::balance;
 use std::alloc::{AllocError, Global};
 
 /// Writes the graph of a file as text that becomes a picture, and returns the status.
-pub(crate) fn draw<O: ByteOut>(
+pub fn draw<O: ByteOut>(
     alloc: Global,
     format: Format,
     file: &[u8],

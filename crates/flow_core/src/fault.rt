@@ -1,17 +1,15 @@
 //! Why the program stops, and how it says so.
 
 ghost use Rattle.std.specs.Prelude.{◌≡◌};
-ghost use Rattle.flow_core.specs.declared.fault.Fault.TheVariants.{File, Run, Script};
+ghost use Rattle.flow_core.specs.declared.fault.Fault.TheVariants.{File, Script};
 ghost use Rattle.flow_core.specs.declared.script.ScriptFault.TheVariants.{Memory};
 
 use crate::script::ScriptFault;
-use flowgraph::Block;
 use graph_file::FileFault;
 use refusal_codes::{Refusal, RefusalText};
 use std::alloc::AllocError;
 use std::fmt;
 use thiserror::Error;
-use threads::{RunError, RunFault};
 
 /// The number by which a file reports that memory ran out.
 pub const NO_MEMORY: u32 = 32;
@@ -23,8 +21,6 @@ pub enum Fault {
     File(FileFault),
     /// A line is refused, or a device or memory failed.
     Script(ScriptFault),
-    /// A run in threads failed.
-    Run(RunError),
 }
 
 impl Refusal for Fault {
@@ -36,7 +32,6 @@ impl Refusal for Fault {
         match self {
             Fault::File(fault) => fault.row(),
             Fault::Script(fault) => fault.row(),
-            Fault::Run(fault) => fault.row(),
         }
     }
 }
@@ -45,15 +40,14 @@ impl Fault {
     ghost use Rattle.refusal_codes.specs.Texts.{refusal_text};
     ghost use Rattle.flow_core.specs.Faults.{fault_text, file_of, status_of};
 
-    /// The exit status for the fault: 4 for memory, devices and threads, 1 for every other refusal.
+    /// The exit status for the fault: 4 for memory and devices, 1 for every other refusal.
     pub fn status(&self) -> u8
         ensures { result ≡ status_of self.now }
     {
         match self {
             Fault::File(fault) if fault.number() == NO_MEMORY => 4,
             Fault::File(_) | Fault::Script(ScriptFault::BadLine(_)) => 1,
-            Fault::Script(ScriptFault::Read | ScriptFault::Write | ScriptFault::Memory)
-            | Fault::Run(_) => 4,
+            Fault::Script(ScriptFault::Read | ScriptFault::Write | ScriptFault::Memory) => 4,
         }
     }
 
@@ -63,7 +57,7 @@ impl Fault {
     {
         match self {
             Fault::File(_) => name,
-            Fault::Script(_) | Fault::Run(_) => "",
+            Fault::Script(_) => "",
         }
     }
 
@@ -74,7 +68,6 @@ impl Fault {
         match self {
             Fault::File(fault) => fault.refusal_text(),
             Fault::Script(fault) => fault.refusal_text(),
-            Fault::Run(fault) => RefusalText::alone(fault.row()),
         }
     }
 }
@@ -92,16 +85,6 @@ impl From<ScriptFault> for Fault {
 
     fn from(fault: ScriptFault) -> Fault {
         Fault::Script(fault)
-    }
-}
-
-impl<B: Block> From<RunFault<B>> for Fault {
-    ghost use Rattle.threads.specs.Fault.{error_of};
-
-    ghost from_gives = { λ fault e. e ≡ Run (error_of fault) };
-
-    fn from(fault: RunFault<B>) -> Fault {
-        Fault::Run(fault.error())
     }
 }
 

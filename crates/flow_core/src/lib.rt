@@ -1,33 +1,28 @@
-//! What the program `flow` does with a graph file and its standard streams, over any source and sink of bytes.
+//! What the program `flow` does with a graph file and its standard streams on one thread, over any source and sink of
+//! bytes.
 //!
 //! ```text
-//! let action = Action::Run(Threading::Adaptive);
-//! let notes = Verbosity::WithNotes;
-//! let status = serve(rt, alloc, action, notes, name, file, &mut input, &mut output, &mut errors, gate, &mut watch);
+//! let status = run_alone(alloc, file, &mut output, &mut watch)?;
 //! ```
 //!
-//! `serve` does all of it. Its contract says which bytes and which status come out for the bytes of the file and of the
-//! input. Below it:
-//!
-//! - `check`, `draw`, `run`, `live` and `script` are the commands. Each opens the file (`opening`) and writes its
-//!   output (`command_output`).
+//! - `check`, `draw`, `run` and `script` are the commands. Each opens the file (`opening`) and writes its output
+//!   (`command_output`).
 //! - `script` takes lines one by one, and an `answerer` replies to each. A `session` holds a plant, and has a module
-//!   for each sort of command. In `live` the lines make calls at the desk of a running plant.
-//! - `threading` runs a plant in threads, `turn` says how much is done at once, and `reports` has the texts.
+//!   for each sort of command.
+//! - `turn` says how much is done at once, and `reports` has the texts.
 //! - `fault`, `raw_fault` and `start_fault` say why a command stopped. `refusal_line` writes that without memory.
 //!   `stalls` explains why a run came to rest.
 //! - `raw_input` and `raw_output` feed and write raw items in memory, for the library for C. `tag_text` writes tags as
 //!   lines.
 //!
-//! Arguments, files and the terminal belong to `flow_command`.
+//! What runs in threads belongs to `flow_runs`. Arguments, files and the terminal belong to `flow_command`.
 #![tactic(auto)]
 
-mod answerer;
+pub mod answerer;
 pub mod check;
 pub mod command_output;
-mod draw;
+pub mod draw;
 pub mod fault;
-mod live;
 pub mod opening;
 pub mod raw_fault;
 pub mod raw_input;
@@ -36,10 +31,8 @@ pub mod refusal_line;
 pub mod reports;
 pub mod run;
 pub mod script;
-pub mod serve;
 pub mod session;
 pub mod stalls;
 pub mod start_fault;
 pub mod tag_text;
-pub mod threading;
 pub mod turn;

@@ -125,7 +125,7 @@ impl Refusal for RawFault {
 impl RawFault {
     ghost use Rattle.flow_core.specs.RawFaults.{raw_fault_text, raw_status_of};
 
-    /// The exit status for the fault: 4 for memory, devices and threads, 1 for every other refusal.
+    /// The exit status for the fault: 4 for memory and devices, 1 for every other refusal.
     pub fn status(&self) -> u8
         ensures { result ≡ raw_status_of self.now }
     {

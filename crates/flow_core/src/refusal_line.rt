@@ -1,12 +1,12 @@
 //! The line that says why a command stopped. It takes no memory, so every fault has one.
 
-ghost use Rattle.std.specs.Prelude.{◌≡◌, ◌+◌, ◌-◌, ◌^◌, ◌<◌, ◌++◌, ◌∷◌, [], codes, OnOk, OnErr, is_ok, if◌then◌else◌};
+ghost use Rattle.std.specs.Prelude.{◌≡◌, ◌+◌, ◌-◌, ◌^◌, ◌<◌, ◌++◌, OnOk, OnErr, is_ok, if◌then◌else◌};
 ghost use Rattle.std.specs.List.{flat_map};
 ghost use Rattle.std.specs.Io.KnownBytes.{Appends};
 ghost use Rattle.byte_io.specs.Ends.{AppendsBeginning};
 ghost use Rattle.refusal_codes.specs.Texts.{part_text, refusal_text};
 ghost use Rattle.script_text.specs.Replies.{line_text};
-ghost use Rattle.flow_core.specs.Faults.{fault_line, found_in};
+ghost use Rattle.flow_core.specs.Faults.{fault_line, found_in, stop_line};
 ghost use Rattle.flow_core.specs.RawFaults.{raw_fault_line};
 ghost use Rattle.flow_core.specs.Serve.{Tries, stream};
 
@@ -34,10 +34,11 @@ pub fn report_raw<E: ByteOut>(fault: &RawFault, name: &str, errors: &mut E)
     write_line(fault.refusal_text(), name, errors);
 }
 
-// Writes the line of a refusal with this text, at the place of this name.
-fn write_line<E: ByteOut>(text: RefusalText<'_>, name: &str, errors: &mut E)
+/// Writes the line that says why a command stopped, with this text, found in what has this `name`, if there is one. A
+/// failed write does not matter to the command.
+pub fn write_line<E: ByteOut>(text: RefusalText<'_>, name: &str, errors: &mut E)
     requires { E.failed errors.old < 2 ^ 64 - 1 }
-    ensures { Tries (stream (E.contents errors.old) (E.failed errors.old)) (stream (E.contents errors.new) (E.failed errors.new)) (line_text (codes "flow: refused " ++ refusal_text text.entry ++ found_in name.now)) }
+    ensures { Tries (stream (E.contents errors.old) (E.failed errors.old)) (stream (E.contents errors.new) (E.failed errors.new)) (stop_line (refusal_text text.entry) name.now) }
 {
     match errors.write(b"flow: refused ") {
         Ok(()) => write_parts(errors, text.parts.as_slice(), name),

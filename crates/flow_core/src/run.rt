@@ -1,4 +1,4 @@
-//! The command `run`: runs the plant of a file until it comes to rest, and writes what its sinks hold.
+//! The command `run` on one thread: steps the plant of a file until it comes to rest, and writes what its sinks hold.
 
 ghost use Rattle.std.specs.Prelude.{◌≡◌, ◌+◌, ◌<◌, ◌-◌, ◌^◌, true, IfOk, IfErr};
 ghost use Rattle.std.specs.Option.{option_map};
@@ -8,48 +8,17 @@ ghost use Rattle.kinds.specs.Kind.{meaning_of};
 ghost use Rattle.plant.specs.Settling.{HasSettled};
 ghost use Rattle.graph_file.specs.Opening.{opened_of};
 ghost use Rattle.flow_core.specs.RawEnds.{StepsToRest};
-ghost use Rattle.flow_core.specs.Serve.{Fails, IsRun, IsRunAlone, IsRunAloneTo, IsRunTo, Refuses, RunsNot, Writes, WritesNot, plant_in, writes_in};
+ghost use Rattle.flow_core.specs.Serve.{IsRunAlone, IsRunAloneTo, Refuses, Writes, WritesNot, plant_in, writes_in};
 
 use crate::command_output::{CommandEnd, RunOutput, run_output, write_run};
 use crate::fault::Fault;
 use crate::opening::open_plant;
-use crate::threading::{Threading, run_plant};
 use crate::turn::TURN;
 use byte_io::ByteOut;
+use closing::close_all;
 use kinds::Kind;
 use plant::{Plant, Settled, Watch};
 use std::alloc::{AllocError, Global};
-use std::sync::{Arc, Wait};
-use std::thread::Threads;
-use std::time::Clock;
-use threads::Gate;
-use top_block::close_all;
-
-/// Runs the plant of a file in threads until it comes to rest, and writes what its sinks hold.
-pub(crate) fn run<
-    G: Gate + Drop + Send + Sync + 'static,
-    R: Threads + Wait + Clock + Copy + Send + Sync + 'static,
-    O: ByteOut,
-    W: Watch,
->(
-    rt: R,
-    alloc: Global,
-    threading: Threading,
-    file: &[u8],
-    output: &mut O,
-    gate: Option<Arc<G, Global>>,
-    watch: &mut W,
-) -> Result<CommandEnd, Fault>
-    requires writes { O.failed output.old < 2 ^ 64 - 1 }
-    ensures does { IfOk result (λ ended. Writes (IsRunTo file.now (option_map opened_of ended.stalled)) (O.contents output.old) (O.contents output.new) ended.status) }
-    ensures does_not { IfErr result (RunsNot (IsRun file.now) (plant_in file.now) (O.contents output.old) (O.contents output.new)) }
-    ensures failed_writes { O.failed output.new ≡ O.failed output.old + writes_in result }
-{
-    match run_file(rt, alloc, threading, file, gate, watch) {
-        Ok(ran) => write_run(output, ran),
-        Err(fault) => Err(fault),
-    }
-}
 
 /// Runs the plant of a file on one thread until it comes to rest, writes what its sinks hold, and returns the status.
 /// It starts no thread and waits for none.
@@ -71,7 +40,7 @@ pub fn run_alone<O: ByteOut, W: Watch>(
 }
 
 /// Runs the plant of a file on one thread until it comes to rest, and writes what its sinks hold.
-pub(crate) fn run_on_one<O: ByteOut, W: Watch>(
+pub fn run_on_one<O: ByteOut, W: Watch>(
     alloc: Global,
     file: &[u8],
     output: &mut O,
@@ -86,29 +55,6 @@ pub(crate) fn run_on_one<O: ByteOut, W: Watch>(
         Ok(ran) => write_run(output, ran),
         Err(fault) => Err(fault),
     }
-}
-
-// Closes the sources of a file's plant, runs it in threads until it comes to rest, and reports what it holds then.
-fn run_file<
-    G: Gate + Drop + Send + Sync + 'static,
-    R: Threads + Wait + Clock + Copy + Send + Sync + 'static,
-    W: Watch,
->(
-    rt: R,
-    alloc: Global,
-    threading: Threading,
-    file: &[u8],
-    gate: Option<Arc<G, Global>>,
-    watch: &mut W,
-) -> Result<RunOutput, Fault>
-    ensures ok { IfOk result (λ ran. IsRunTo file.now (option_map opened_of ran.stalled) ran.given.text.items ran.given.status) }
-    ensures failed { IfErr result (Fails (plant_in file.now)) }
-{
-    let plant = open_plant(alloc, file)?;
-    plant.recall();
-    let (plant, settled) = run_plant(rt, alloc, threading, plant, gate, watch)?;
-    plant.recall();
-    Ok(run_output(alloc, plant, settled)?)
 }
 
 // Closes the sources of a file's plant, runs it on one thread until it comes to rest, and reports what it holds then.

@@ -148,7 +148,7 @@ pub fn script<B: Block, I: ByteIn, O: ByteOut>(
 }
 
 /// Answers all lines, up to the end of the reader.
-pub(crate) fn answer_all<H, A: Answerer<H>, I: ByteIn, O: ByteOut>(
+pub fn answer_all<H, A: Answerer<H>, I: ByteIn, O: ByteOut>(
     handle: &H,
     alloc: Global,
     session: &mut A,

@@ -133,7 +133,7 @@ fn name_of(command: &Command) -> Option<&BlockName>
 }
 
 /// The number of the block of this name.
-pub(crate) fn find<B: Block>(graph: &Valid<B>, name: &BlockName) -> Option<BlockId>
+pub fn find<B: Block>(graph: &Valid<B>, name: &BlockName) -> Option<BlockId>
     ensures named { option_map (λ block. block.0) result ≡ position (bytes_eq name.now) graph.now.names }
     ensures inside { IfSome result (λ block. block.0 < length graph.now.blocks) }
 {

@@ -15,7 +15,6 @@ ghost use Rattle.flow_core.specs.Stalls.{full_in, is_for_room, lowest_from, open
 
 pub mod stalled_plant;
 
-use crate::serve::Verbosity;
 use crate::stalls::stalled_plant::StalledPlant;
 use byte_io::{Broken, ByteOut};
 use flowgraph::Valid;
@@ -28,8 +27,15 @@ use std::alloc::Global;
 const UNEVEN: &[u8] =
     b"flow: stalled: the rates are uneven: on longer streams any capacity may fill\n";
 
+/// Whether to write lines that no command asks for, such as why a run stalled.
+#[derive(Clone, Copy, Debug, PartialEq, Eq)]
+pub enum Verbosity {
+    WithNotes,
+    Quiet,
+}
+
 /// Tells why a run stalled, if it did and if that is wanted.
-pub(crate) fn note_stall<E: ByteOut>(
+pub fn note_stall<E: ByteOut>(
     alloc: Global,
     verbosity: Verbosity,
     stalled: &Option<Plant<Kind>>,

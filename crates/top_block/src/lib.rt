@@ -11,7 +11,6 @@
 //! plant that the run returns.
 #![tactic(auto)]
 
-pub mod closing;
 pub mod top;
 
 pub use closing::close_all;

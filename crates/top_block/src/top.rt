@@ -18,9 +18,9 @@ ghost use Rattle.threads.specs.declared.run_options.Threading.TheVariants.{Adapt
 ghost use Rattle.threads.specs.History.{noted_by};
 ghost use Rattle.threads.specs.Live.{AreLogs, HaveReturned, LiveRunEndsIn, GivesBackLive, opening_of};
 ghost use Rattle.threads.specs.Outcomes.{RunEndsIn, GivesBack, IsSo, handed_of};
-ghost use Rattle.top_block.specs.Closing.{with_all_closed};
+ghost use Rattle.closing.specs.Closing.{with_all_closed};
 
-use crate::closing::close_all;
+use closing::close_all;
 use flowgraph::{BlockId, Valid};
 use items::{Items, Mark};
 use kinds::Kind;

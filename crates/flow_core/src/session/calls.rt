@@ -142,7 +142,7 @@ pub(crate) fn read<B: Block>(
 }
 
 /// What a sink shows, as a line.
-pub(crate) fn shown(alloc: Global, piece: &Piece) -> Result<Vec<u8>, AllocError>
+pub fn shown(alloc: Global, piece: &Piece) -> Result<Vec<u8>, AllocError>
     ensures { IfOk result (λ line. line.items ≡ reply_line (piece_reply piece.now)) }
 {
     let reply = Reply::Piece {
@@ -164,7 +164,7 @@ pub(crate) fn waiting(need: Need) -> Reply<'static>
 }
 
 /// A refusal as a line.
-pub(crate) fn refused(alloc: Global, fault: PlantFault) -> Result<Vec<u8>, AllocError>
+pub fn refused(alloc: Global, fault: PlantFault) -> Result<Vec<u8>, AllocError>
     ensures { IfOk result (λ line. line.items ≡ refusal_line fault) }
 {
     match fault {

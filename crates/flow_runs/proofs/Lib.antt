@@ -1,0 +1,4 @@
+mod Agreeing
+mod Desks
+mod Lines
+mod Outcomes

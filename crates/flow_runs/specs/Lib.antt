@@ -1,0 +1,4 @@
+pub mod AtDesk
+pub mod Faults
+pub mod Serve
+pub mod Threads
