@@ -2,8 +2,8 @@
 use super::chains;
 use super::streams::{Page, Text};
 use drawings::Format;
-use flow_core::threading::Threading;
-use flow_core::serve::{Action, Verbosity, serve};
+use flow_runs::threading::Threading;
+use flow_runs::serve::{Action, Verbosity, serve};
 use plant::Unwatched;
 use std::alloc::{AllocError, Global};
 use std::sync::{Arc, Wait};

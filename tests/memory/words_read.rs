@@ -2,7 +2,7 @@
 use super::words::{Asked, asked_by};
 use crate::Host;
 use clap::error::ErrorKind;
-use flow_core::serve::Action;
+use flow_runs::serve::Action;
 use flow_core::start_fault::StartFault;
 use std::alloc::Global;
 use std::{env, fs};

@@ -4,7 +4,7 @@ ghost use Rattle.std.specs.Prelude.{None};
 use super::fakes::{Pieces, Written, lines_in};
 use super::served::{Ends, GOOD, served};
 use byte_io::{Broken, ByteIn, ByteOut};
-use flow_core::serve::{Action, Verbosity, serve};
+use flow_runs::serve::{Action, Verbosity, serve};
 use plant::{Headway, Unwatched, Watch};
 use std::alloc::Global;
 use std::sync::Arc;

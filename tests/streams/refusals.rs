@@ -1,7 +1,7 @@
 //! What is written to standard error.
 use super::served::{Ends, GOOD, served};
-use flow_core::threading::Threading;
-use flow_core::serve::Action;
+use flow_runs::threading::Threading;
+use flow_runs::serve::Action;
 use std::alloc::Global;
 use std::sync::Wait;
 use std::test::Fail;

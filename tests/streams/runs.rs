@@ -1,8 +1,8 @@
 //! Calls whose streams come in pieces, or fail.
 use super::fakes::lines_in;
 use super::served::{Ends, GOOD, served, served_with};
-use flow_core::threading::Threading;
-use flow_core::serve::{Action, Verbosity};
+use flow_runs::threading::Threading;
+use flow_runs::serve::{Action, Verbosity};
 use std::test::Fail;
 
 // Two ways from one source of bytes.

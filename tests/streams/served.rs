@@ -1,6 +1,6 @@
 //! Calls of `serve` over streams in memory.
 use super::fakes::{Pieces, Written};
-use flow_core::serve::{Action, Verbosity, serve};
+use flow_runs::serve::{Action, Verbosity, serve};
 use plant::Unwatched;
 use std::alloc::Global;
 use std::sync::{Arc, Wait};

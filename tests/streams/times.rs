@@ -1,7 +1,7 @@
 //! Where the time of a run went: the reports, byte for byte, and what a run of each way is measured.
 use super::fakes::{Pieces, Written};
-use flow_core::threading::Threading;
-use flow_core::serve::{Action, Verbosity, serve};
+use flow_runs::threading::Threading;
+use flow_runs::serve::{Action, Verbosity, serve};
 use flowgraph::{BlockId, Valid};
 use graph_file::read_graph;
 use kinds::Kind;

@@ -1,7 +1,7 @@
 //! The trace of a run: its text, byte for byte, by a clock that is set; and what the trace of a run of each way has.
 use super::fakes::{Pieces, Written};
-use flow_core::threading::Threading;
-use flow_core::serve::{Action, Verbosity, serve};
+use flow_runs::threading::Threading;
+use flow_runs::serve::{Action, Verbosity, serve};
 use flowgraph::{BlockId, Valid};
 use graph_file::read_graph;
 use kinds::Kind;
