@@ -13,7 +13,7 @@ use std::fmt;
 use threads::RunError;
 
 /// Why a call was refused, why a pipeline stopped, or why a run in threads failed. It has the number, name and text of
-/// the fault that it was made of. Numbers are 1 to 12, 20 to 34, 40 to 44, 50 to 53, 58, or 60 to 62; names are as
+/// the fault that it was made of. Numbers are 1 to 12, 20 to 35, 40 to 44, 50 to 53, 58, or 60 to 62; names are as
 /// `Loop` or `Memory`.
 #[derive(Debug, Drop, thiserror::Error)]
 pub enum Error {

@@ -5,8 +5,9 @@ pub use crate::blocks::{
 };
 pub use crate::custom::Either;
 pub use crate::error::Error;
+pub use crate::files::read_graph;
 pub use crate::graphs::{BlockId, Graph, Options, Policy};
-pub use crate::plants::{Claim, Piece, Plant, Settled, Step, StreamingPlant};
-pub use crate::runs::{Outcome, RunError, TopBlock};
+pub use crate::plants::{Claim, Piece, Pipeline, Plant, Settled, Step, StreamingPlant};
+pub use crate::runs::{Outcome, RunError, RunOptions, TopBlock};
 pub use crate::streams::{ItemFault, ItemType, Items, Mark, Tag, TagKey};
 pub use refusal_codes::Refusal;

@@ -1,7 +1,6 @@
 //! Bytes go through a graph as the shorts that they are, and come out as bytes: each short is doubled.
 #![tactic(auto)]
 
-use magbelu::plants::Pipeline;
 use magbelu::prelude::*;
 use magbelu::streams::ByteOrder;
 use std::alloc::Global;
