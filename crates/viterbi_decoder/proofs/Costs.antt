@@ -31,12 +31,12 @@ some-same a b e = cc
 pub apart : {X : Type 0} {Y : Type 0} (a : X) → None ≡ Some a → Y
 apart a e = cc
 
--- a step is one of 1,024
-pub few-steps : (m : Trellis) (k : ℕ) → IsTrellis m → k < m.steps → k ≤ 1024
-few-steps m k is less = bound m.steps m.outputs k less is.some_outputs is.few_items
+-- a block has at most 1,024 steps
+pub few-steps : (m : Trellis) → IsTrellis m → m.steps ≤ 1024
+few-steps m is = bound m.steps m.outputs is.some_outputs is.few_items
   where
-    bound : (n o k : ℕ) → k < n → 1 ≤ o → n * o ≤ 1024 → k ≤ 1024
-    bound n o k h some few = grind arith
+    bound : (n o : ℕ) → 1 ≤ o → n * o ≤ 1024 → n ≤ 1024
+    bound n o some few = grind arith
 
 -- the place of a row's metric
 pub metric-place : (m : Trellis) (k o : ℕ) → k < m.steps → o < m.outputs → k * m.outputs + o < m.steps * m.outputs

@@ -1,5 +1,6 @@
 pub mod Cheapest
 pub mod Costs
+pub mod Compared
 pub mod Rows
 pub mod LastStates
 pub mod Traced

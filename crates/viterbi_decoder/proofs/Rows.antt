@@ -1,19 +1,20 @@
 -- The paths found with one step more, row by row.
-use Rattle.std.proofs.Common.{◌≡◌, ◌≢◌, inl, inr, ℕ, suc, ◌+◌, ◌*◌, ◌/◌, ◌<◌, ◌≤◌, ◌==◌, ℤ, List, [], ◌∷◌, ◌++◌, Bool, true, false, Option, None, Some, length, map, filter, flat_map, set, replicate, int_lt, Decides, refl, ap, sym, subst, ◌∙◌, arith}
+use Rattle.std.proofs.Common.{◌≡◌, ◌≢◌, inl, inr, ℕ, suc, ◌+◌, ◌*◌, ◌/◌, ◌<◌, ◌≤◌, ◌==◌, ℤ, pos, List, [], ◌∷◌, ◌++◌, Bool, true, false, Option, None, Some, length, map, filter, flat_map, set, replicate, int_lt, refl, ap, sym, subst, ◌∙◌, arith}
 use Rattle.std.specs.Prelude.{slice_index_or, if◌then◌else◌}
 use Rattle.std.specs.Option.{option_map}
 use Rattle.std.proofs.lemmas.Bool.{cases_lt}
 use Rattle.std.proofs.lemmas.Bool.Decides.{Decides-eqb}
-use Rattle.std.proofs.lemmas.List.{append-nil, map-id, get_or-set_other}
+use Rattle.std.proofs.lemmas.List.{append-nil, map-id, get_or-set_other, set-get_or}
 use Rattle.std.proofs.lemmas.List.Elements.{All-replicate}
 use Rattle.std.proofs.lemmas.List.FromFn.{filter_of_map_range_with_len_more}
 use Rattle.std.proofs.lemmas.Nat.{mul-add-lt}
 use Rattle.std.proofs.lemmas.Grind.{flat_map-append, get_or-set_at}
 use Rattle.stream_model.specs.Lists.{below}
-use Rattle.kind_model.specs.Trellis.{Trellis, IsTrellis, states_of, may_be, paths_to, metric, cost, cheapest}
-use Rattle.viterbi_decoder.specs.Found.{found, found_by, behind, is_less, IsSum, AreSums, IsLastRow, AreLastRows, AreHeld, AreRows}
+use Rattle.kind_model.specs.Trellis.{Trellis, IsTrellis, states_of, paths_to, metric, cost, cheapest}
+use Rattle.viterbi_decoder.specs.Found.{found, found_by, behind, sum_in, is_less, IsSum, AreSums, IsLastRow, AreLastRows, AreHeld, AreRows}
 use Rattle.viterbi_decoder.proofs.Cheapest.{joined, cheapest-append, cheapest-behind, cheapest-shifted}
 use Rattle.viterbi_decoder.proofs.Costs.{apart}
+use Rattle.viterbi_decoder.proofs.Compared.{less-same, wide-sum}
 
 joined-none : (f : List ℕ → ℤ) (o : Option (List ℕ)) → joined f o None ≡ o
 joined-none f None = refl
@@ -73,10 +74,10 @@ last-behind r (Some q) p e = (q, same q p e, refl)
     same : (q p : List ℕ) → Some (r ∷ q) ≡ Some p → p ≡ r ∷ q
     same q p e = cc
 
-module _ (m : Trellis) (x : List ℤ) (k i to : ℕ) (after : List (Option ℤ)) (rows : List ℕ) (sum : Option ℤ) (to_is : slice_index_or m.next i 0 ≡ to) (sum_is : IsSum m x (suc k) (behind m x k i) sum) (held : AreHeld m x k i after rows) where
+module _ (m : Trellis) (x : List ℤ) (k i to : ℕ) (after : List ℤ) (rows : List ℕ) (sum : ℤ) (to_is : slice_index_or m.next i 0 ≡ to) (sum_is : IsSum m x (suc k) (behind m x k i) (sum_in sum)) (held : AreHeld m x k i after rows) (few : suc k ≤ 1024) where
   by_test :
       (s : ℕ) → s < states_of m → (t : Bool) → (slice_index_or m.next i 0 == s) ≡ t →
-      found_by m x k (i + 1) s ≡ (if t then (if is_less sum (slice_index_or after s None) then behind m x k i else found_by m x k i s) else found_by m x k i s)
+      found_by m x k (i + 1) s ≡ (if t then (if is_less (sum_in sum) (sum_in (slice_index_or after s (pos 0))) then behind m x k i else found_by m x k i s) else found_by m x k i s)
   by_test s h t e =
       let new = sym (sum_is.is) in
       let old = sym ((held.sums_are s h).is) in
@@ -84,12 +85,20 @@ module _ (m : Trellis) (x : List ℤ) (k i to : ℕ) (after : List (Option ℤ))
       ∙ (λ j. if e j then joined-picked (cost m x 0 (suc k)) (found_by m x k i s) (behind m x k i) j else found_by m x k i s)
       ∙ (λ j. if t then (if is_less (new j) (old j) then behind m x k i else found_by m x k i s) else found_by m x k i s)
 
+  compared :
+      (t : Bool) → int_lt sum (slice_index_or after to (pos 0)) ≡ t → (s : ℕ) → s < states_of m → to ≡ s →
+      is_less (sum_in sum) (sum_in (slice_index_or after s (pos 0))) ≡ t
+  compared t e s h here =
+      let near = wide-sum (suc k) (sum_in sum) few sum_is.within in
+      let by = wide-sum (suc k) (sum_in (slice_index_or after s (pos 0))) few (held.sums_are s h).within in
+      less-same sum (slice_index_or after s (pos 0)) near by ∙ ap (λ n. int_lt sum (slice_index_or after n (pos 0))) (sym here) ∙ e
+
   by_state :
-      (t : Bool) → is_less sum (slice_index_or after to None) ≡ t → (s : ℕ) → s < states_of m → to ≡ s →
+      (t : Bool) → int_lt sum (slice_index_or after to (pos 0)) ≡ t → (s : ℕ) → s < states_of m → to ≡ s →
       found_by m x k (i + 1) s ≡ (if t then behind m x k i else found_by m x k i s)
   by_state t e s h here =
       by_test s h true ((Decides-eqb (slice_index_or m.next i 0) s).1 (to_is ∙ here))
-      ∙ (λ j. if (ap (λ n. is_less sum (slice_index_or after n None)) (sym here) ∙ e) j then behind m x k i else found_by m x k i s)
+      ∙ (λ j. if compared t e s h here j then behind m x k i else found_by m x k i s)
 
   same_state : (s : ℕ) → (slice_index_or m.next i 0 == s) ≡ true → to ≡ s
   same_state s d = sym to_is ∙ (Decides-eqb (slice_index_or m.next i 0) s).0 d
@@ -101,10 +110,10 @@ module _ (m : Trellis) (x : List ℤ) (k i to : ℕ) (after : List (Option ℤ))
       both e d = cc
 
   -- a row whose path costs no less than the one before it
-  pub held-left : is_less sum (slice_index_or after to None) ≡ false → AreHeld m x k (i + 1) after rows
+  pub held-left : int_lt sum (slice_index_or after to (pos 0)) ≡ false → AreHeld m x k (i + 1) after rows
   held-left e =
       record {
-        sums_are = λ s h. subst (λ o. IsSum m x (suc k) o (slice_index_or after s None)) (sym (stays s h (slice_index_or m.next i 0 == s) refl)) (held.sums_are s h);
+        sums_are = λ s h. subst (λ o. IsSum m x (suc k) o (sum_in (slice_index_or after s (pos 0)))) (sym (stays s h (slice_index_or m.next i 0 == s) refl)) (held.sums_are s h);
         rows_are = λ s h. subst (λ o. IsLastRow m x k o (slice_index_or rows (k * states_of m + s) 0)) (sym (stays s h (slice_index_or m.next i 0 == s) refl)) (held.rows_are s h);
       }
     where
@@ -114,7 +123,7 @@ module _ (m : Trellis) (x : List ℤ) (k i to : ℕ) (after : List (Option ℤ))
 
   -- a row whose path costs less
   pub held-taken :
-      is_less sum (slice_index_or after to None) ≡ true → to < length after → k * states_of m + to < length rows →
+      int_lt sum (slice_index_or after to (pos 0)) ≡ true → to < length after → k * states_of m + to < length rows →
       AreHeld m x k (i + 1) (set after to sum) (set rows (k * states_of m + to) i)
   held-taken e long room =
       record {
@@ -123,18 +132,18 @@ module _ (m : Trellis) (x : List ℤ) (k i to : ℕ) (after : List (Option ℤ))
       }
     where
       moved_sum :
-          (s : ℕ) (o : Option (List ℕ)) (v : Option ℤ) → found_by m x k (i + 1) s ≡ o → slice_index_or (set after to sum) s None ≡ v → IsSum m x (suc k) o v →
-          IsSum m x (suc k) (found_by m x k (i + 1) s) (slice_index_or (set after to sum) s None)
+          (s : ℕ) (o : Option (List ℕ)) (v : ℤ) → found_by m x k (i + 1) s ≡ o → slice_index_or (set after to sum) s (pos 0) ≡ v → IsSum m x (suc k) o (sum_in v) →
+          IsSum m x (suc k) (found_by m x k (i + 1) s) (sum_in (slice_index_or (set after to sum) s (pos 0)))
       moved_sum s o v found_is v_is is =
-          subst (λ p. IsSum m x (suc k) p (slice_index_or (set after to sum) s None)) (sym found_is) (subst (λ w. IsSum m x (suc k) o w) (sym v_is) is)
+          subst (λ p. IsSum m x (suc k) p (sum_in (slice_index_or (set after to sum) s (pos 0)))) (sym found_is) (subst (λ w. IsSum m x (suc k) o (sum_in w)) (sym v_is) is)
 
       new_sum :
           (s : ℕ) → s < states_of m → (t : Bool) → (slice_index_or m.next i 0 == s) ≡ t →
-          IsSum m x (suc k) (found_by m x k (i + 1) s) (slice_index_or (set after to sum) s None)
+          IsSum m x (suc k) (found_by m x k (i + 1) s) (sum_in (slice_index_or (set after to sum) s (pos 0)))
       new_sum s h false d =
-          moved_sum s (found_by m x k i s) (slice_index_or after s None) (by_test s h false d) (get_or-set_other after to s sum None (other_state s d)) (held.sums_are s h)
+          moved_sum s (found_by m x k i s) (slice_index_or after s (pos 0)) (by_test s h false d) (get_or-set_other after to s sum (pos 0) (other_state s d)) (held.sums_are s h)
       new_sum s h true d =
-          moved_sum s (behind m x k i) sum (by_state true e s h (same_state s d)) (get_or-set_at after to s sum None (sym (same_state s d)) long) sum_is
+          moved_sum s (behind m x k i) sum (by_state true e s h (same_state s d)) (get_or-set_at after to s sum (pos 0) (sym (same_state s d)) long) sum_is
 
       moved_row :
           (s : ℕ) (o : Option (List ℕ)) (r : ℕ) → found_by m x k (i + 1) s ≡ o → slice_index_or (set rows (k * states_of m + to) i) (k * states_of m + s) 0 ≡ r → IsLastRow m x k o r →
@@ -153,9 +162,25 @@ module _ (m : Trellis) (x : List ℤ) (k i to : ℕ) (after : List (Option ℤ))
           moved_row s (behind m x k i) i (by_state true e s h here) (get_or-set_at rows (k * states_of m + to) (k * states_of m + s) i 0 (omega (arith, here)) room)
           (record { is = λ p same. last-behind i (found m x k (i / m.symbols)) p same })
 
+  -- in either case
+  pub held-more :
+      to < length after → k * states_of m + to < length rows →
+      AreHeld m x k (i + 1) (set after to (if int_lt sum (slice_index_or after to (pos 0)) then sum else slice_index_or after to (pos 0)))
+      (set rows (k * states_of m + to) (if int_lt sum (slice_index_or after to (pos 0)) then i else slice_index_or rows (k * states_of m + to) 0))
+  held-more long room = choose (int_lt sum (slice_index_or after to (pos 0))) refl
+    where
+      choose :
+          (t : Bool) → int_lt sum (slice_index_or after to (pos 0)) ≡ t →
+          AreHeld m x k (i + 1) (set after to (if t then sum else slice_index_or after to (pos 0)))
+          (set rows (k * states_of m + to) (if t then i else slice_index_or rows (k * states_of m + to) 0))
+      choose true e = held-taken e long room
+      choose false e =
+          subst (λ ys. AreHeld m x k (i + 1) ys (set rows (k * states_of m + to) (slice_index_or rows (k * states_of m + to) 0))) (sym (set-get_or after to (pos 0)))
+          (subst (λ rs. AreHeld m x k (i + 1) after rs) (sym (set-get_or rows (k * states_of m + to) 0)) (held-left e))
+
 -- after the last row they are those of one step more
 pub held-rows :
-    (m : Trellis) (x : List ℤ) (k i : ℕ) (sums : List (Option ℤ)) (rows old : List ℕ) → i ≡ length m.next → AreHeld m x k i sums rows →
+    (m : Trellis) (x : List ℤ) (k i : ℕ) (sums : List ℤ) (rows old : List ℕ) → i ≡ length m.next → AreHeld m x k i sums rows →
     ((i : ℕ) → i < k * states_of m → slice_index_or rows i 0 ≡ slice_index_or old i 0) → AreLastRows m x k old → AreLastRows m x (suc k) rows
 held-rows m x k i sums rows old all held stays before = record { each = each }
   where
@@ -171,11 +196,16 @@ held-rows m x k i sums rows old all held stays before = record { each = each }
               (subst (λ n. IsLastRow m x k (found_by m x k n s) (slice_index_or rows (k * states_of m + s) 0)) all (held.rows_are s l))
         ]
 
+pub held-sums :
+    (m : Trellis) (x : List ℤ) (k i : ℕ) (sums : List ℤ) (rows : List ℕ) → i ≡ length m.next → AreHeld m x k i sums rows → AreSums m x (suc k) sums
+held-sums m x k i sums rows all held =
+    record { each = λ s h. subst (λ n. IsSum m x (suc k) (found_by m x k n s) (sum_in (slice_index_or sums s (pos 0)))) all (held.sums_are s h) }
+
 -- sums of the same states
 pub same-sums :
-    (m : Trellis) (x : List ℤ) (k : ℕ) (sums same : List (Option ℤ)) → ((s : ℕ) → s < states_of m → slice_index_or same s None ≡ slice_index_or sums s None) →
+    (m : Trellis) (x : List ℤ) (k : ℕ) (sums same : List ℤ) → ((s : ℕ) → s < states_of m → slice_index_or same s (pos 0) ≡ slice_index_or sums s (pos 0)) →
     AreSums m x k sums → AreSums m x k same
-same-sums m x k sums same h are = record { each = λ s l. subst (λ v. IsSum m x k (found m x k s) v) (sym (h s l)) (are.each s l) }
+same-sums m x k sums same h are = record { each = λ s l. subst (λ v. IsSum m x k (found m x k s) (sum_in v)) (sym (h s l)) (are.each s l) }
 
 -- the place of a state's last row
 pub row-place : (m : Trellis) (k s : ℕ) → k < m.steps → s < states_of m → k * states_of m + s < m.steps * states_of m
@@ -187,3 +217,7 @@ zero-rows m n is = record { each = All-replicate (λ r. r < length m.next) n 0 (
   where
     some : (a b l : ℕ) → 1 ≤ a → 1 ≤ b → a * b ≡ l → 0 < l
     some a b l h k e = grind arith
+
+-- behind the last symbol of a state come the rows of the next
+pub row-end : (state symbols symbol : ℕ) → symbol ≡ symbols → state * symbols + symbol ≡ (state + 1) * symbols
+row-end state symbols symbol e = grind (arith, e)

@@ -1,6 +1,7 @@
 -- What a decoder has of the paths that it has found.
-use Rattle.std.specs.Prelude.{◌≡◌, ℕ, suc, ◌+◌, ◌*◌, ◌/◌, ◌<◌, ◌==◌, Bool, true, false, ℤ, pos, neg_ℤ, ◌≤ℤ◌, List, [], ◌∷◌, ◌≤◌, int_lt, Option, All, None, Some, length, map, filter, flat_map, slice_index_or}
+use Rattle.std.specs.Prelude.{◌≡◌, ℕ, suc, ◌+◌, ◌*◌, ◌/◌, ◌<◌, ◌==◌, Bool, true, false, ℤ, pos, neg_ℤ, ◌≤ℤ◌, List, ◌∷◌, int_lt, Option, All, None, Some, length, map, filter, flat_map, slice_index_or, if◌then◌else◌}
 use Rattle.std.specs.Option.{option_map, ForSome}
+use Rattle.std.specs.Ordering.{int_eq}
 use Rattle.stream_model.specs.Lists.{below}
 use Rattle.kind_model.specs.Trellis.{Trellis, states_of, may_be, paths_to, cost, cheapest}
 
@@ -26,6 +27,14 @@ pub record IsWithin (k : ℕ) (z : ℤ) : Type 0 where
   pub above : neg_ℤ (pos (2147483648 * k)) ≤ℤ z
   pub below : z ≤ℤ pos (2147483648 * k)
 
+-- what stands for the sum of no path: more than the sum of any
+abbrev pub far : ℤ
+far = pos 4611686018427387904
+
+-- the sum that a number stands for, where it is one
+abbrev pub sum_in : ℤ → Option ℤ
+sum_in z = if int_eq z far then None else Some z
+
 -- whether there is a first sum, and it is less than the second, if there is one
 abbrev pub is_less : Option ℤ → Option ℤ → Bool
 is_less None than = false
@@ -38,8 +47,8 @@ pub record IsSum (m : Trellis) (x : List ℤ) (k : ℕ) (path : Option (List ℕ
   pub within : ForSome sum (IsWithin k)
 
 -- the sums of the paths found of so many steps, one to each state
-pub record AreSums (m : Trellis) (x : List ℤ) (k : ℕ) (sums : List (Option ℤ)) : Type 0 where
-  pub each : (s : ℕ) → s < states_of m → IsSum m x k (found m x k s) (slice_index_or sums s None)
+pub record AreSums (m : Trellis) (x : List ℤ) (k : ℕ) (sums : List ℤ) : Type 0 where
+  pub each : (s : ℕ) → s < states_of m → IsSum m x k (found m x k s) (sum_in (slice_index_or sums s (pos 0)))
 
 -- the last row of a path of so many steps and one more, where there is a path: behind the path found to the state that the row leads from
 pub record IsLastRow (m : Trellis) (x : List ℤ) (k : ℕ) (path : Option (List ℕ)) (row : ℕ) : Type 0 where
@@ -50,8 +59,8 @@ pub record AreLastRows (m : Trellis) (x : List ℤ) (k : ℕ) (rows : List ℕ) 
   pub each : (j s : ℕ) → j < k → s < states_of m → IsLastRow m x j (found m x (suc j) s) (slice_index_or rows (j * states_of m + s) 0)
 
 -- the sums and the last rows of the paths found to each state among those of one step more whose last row is below i
-pub record AreHeld (m : Trellis) (x : List ℤ) (k i : ℕ) (sums : List (Option ℤ)) (rows : List ℕ) : Type 0 where
-  pub sums_are : (s : ℕ) → s < states_of m → IsSum m x (suc k) (found_by m x k i s) (slice_index_or sums s None)
+pub record AreHeld (m : Trellis) (x : List ℤ) (k i : ℕ) (sums : List ℤ) (rows : List ℕ) : Type 0 where
+  pub sums_are : (s : ℕ) → s < states_of m → IsSum m x (suc k) (found_by m x k i s) (sum_in (slice_index_or sums s (pos 0)))
   pub rows_are : (s : ℕ) → s < states_of m → IsLastRow m x k (found_by m x k i s) (slice_index_or rows (k * states_of m + s) 0)
 
 -- each is a row

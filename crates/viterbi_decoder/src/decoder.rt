@@ -89,8 +89,8 @@ impl Decoder {
         ensures symbols { (j : ℕ) → j < self.now.steps
             → slice_index_or out.new j 0 ≡ decoded (trellis_of self.now) (map T.number metrics.now) 0 j }
     {
-        let mut sums = [None; STATES];
-        let mut after = [None; STATES];
+        let mut sums = [0; STATES];
+        let mut after = [0; STATES];
         let mut rows = [0; CHOICES];
         self.begin(&mut sums);
         self.go(metrics, &mut sums, &mut after, &mut rows);

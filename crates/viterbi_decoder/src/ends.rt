@@ -10,7 +10,7 @@ impl Decoder {
     ghost use Rattle.viterbi_decoder.specs.Model.{trellis_of};
 
     // The last state of the path found for a block, where there is one.
-    pub(crate) fn last_state(&self, sums: &[Option<i64>]) -> Option<usize>
+    pub(crate) fn last_state(&self, sums: &[i64]) -> Option<usize>
         requires { states_of (trellis_of self.now) ≤ length sums.now }
         ensures none { IfNone result ((x : List ℤ) → AreSums (trellis_of self.now) x self.now.steps sums.now
             → found_below (trellis_of self.now) x (states_of (trellis_of self.now)) ≡ None) }

@@ -1,11 +1,18 @@
 //! Steps of all paths at once: row by row, each path found is kept where it costs less than those before it.
-ghost use Rattle.std.specs.Prelude.{◌≡◌, ◌+◌, ◌*◌, ◌/◌, ◌<◌, ◌≤◌, ℕ, ℤ, suc, List, Some, None, length, map, slice_index_or};
+ghost use Rattle.std.specs.Prelude.{◌≡◌, ◌+◌, ◌*◌, ◌/◌, ◌<◌, ◌≤◌, ℕ, ℤ, suc, List, length, map, slice_index_or, if◌then◌else◌};
 ghost use Rattle.kind_model.specs.Trellis.{states_of};
-ghost use Rattle.viterbi_decoder.specs.Found.{found, IsSum, AreSums, AreLastRows, AreRows, AreHeld};
+ghost use Rattle.viterbi_decoder.specs.Found.{found, sum_in, IsSum, AreSums, AreLastRows, AreRows, AreHeld};
 
 use crate::decoder::Decoder;
-use crate::sums::is_less;
 use numbers::Number;
+
+// The first of two values or the second. It is written in any case: which path costs less is hard for a processor to predict.
+#[inline(always)]
+fn chosen<T: Copy>(is_first: bool, first: T, second: T) -> T
+    ensures { result ≡ (if is_first then first else second) }
+{
+    if is_first { first } else { second }
+}
 
 impl Decoder {
     ghost use Rattle.viterbi_decoder.specs.Model.{trellis_of};
@@ -17,14 +24,14 @@ impl Decoder {
         metrics: &[T],
         step: usize,
         row: usize,
-        sum: Option<i64>,
-        after: &mut [Option<i64>],
+        sum: i64,
+        after: &mut [i64],
         rows: &mut [u16],
     )
         requires metrics { length metrics.now ≡ self.now.steps * self.now.outputs }
         requires step { step < self.now.steps }
         requires row { row < length self.now.next.items }
-        requires sum { IsSum (trellis_of self.now) (map T.number metrics.now) step (found (trellis_of self.now) (map T.number metrics.now) step (row / self.now.symbols)) sum }
+        requires sum { IsSum (trellis_of self.now) (map T.number metrics.now) step (found (trellis_of self.now) (map T.number metrics.now) step (row / self.now.symbols)) (sum_in sum) }
         requires long { states_of (trellis_of self.now) ≤ length after.old }
         requires room { self.now.steps * states_of (trellis_of self.now) ≤ length rows.old }
         requires held { AreHeld (trellis_of self.now) (map T.number metrics.now) step row after.old rows.old }
@@ -37,10 +44,10 @@ impl Decoder {
     {
         let sum = self.sum_behind(metrics, step, row, sum);
         let to = usize::from(self.next[row]);
-        if is_less(sum, after[to]) {
-            after[to] = sum;
-            rows[step * self.states as usize + to] = row as u16;
-        }
+        let place = step * self.states as usize + to;
+        let is_less = sum < after[to];
+        after[to] = chosen(is_less, sum, after[to]);
+        rows[place] = chosen(is_less, row as u16, rows[place]);
     }
 
     // Finds the paths with one step more whose last row is one of this state, where they cost less than those before it.
@@ -49,14 +56,14 @@ impl Decoder {
         metrics: &[T],
         step: usize,
         state: usize,
-        sum: Option<i64>,
-        after: &mut [Option<i64>],
+        sum: i64,
+        after: &mut [i64],
         rows: &mut [u16],
     )
         requires metrics { length metrics.now ≡ self.now.steps * self.now.outputs }
         requires step { step < self.now.steps }
         requires state { state < states_of (trellis_of self.now) }
-        requires sum { IsSum (trellis_of self.now) (map T.number metrics.now) step (found (trellis_of self.now) (map T.number metrics.now) step state) sum }
+        requires sum { IsSum (trellis_of self.now) (map T.number metrics.now) step (found (trellis_of self.now) (map T.number metrics.now) step state) (sum_in sum) }
         requires long { states_of (trellis_of self.now) ≤ length after.old }
         requires room { self.now.steps * states_of (trellis_of self.now) ≤ length rows.old }
         requires held { AreHeld (trellis_of self.now) (map T.number metrics.now) step (state * self.now.symbols) after.old rows.old }
@@ -78,8 +85,8 @@ impl Decoder {
         &self,
         metrics: &[T],
         step: usize,
-        before: &[Option<i64>],
-        after: &mut [Option<i64>],
+        before: &[i64],
+        after: &mut [i64],
         rows: &mut [u16],
     )
         requires metrics { length metrics.now ≡ self.now.steps * self.now.outputs }
@@ -106,8 +113,8 @@ impl Decoder {
     pub(crate) fn go<T: Number>(
         &self,
         metrics: &[T],
-        sums: &mut [Option<i64>],
-        after: &mut [Option<i64>],
+        sums: &mut [i64],
+        after: &mut [i64],
         rows: &mut [u16],
     )
         requires metrics { length metrics.now ≡ self.now.steps * self.now.outputs }

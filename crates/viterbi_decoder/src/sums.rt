@@ -1,10 +1,13 @@
 //! The sums of the metrics of paths.
-ghost use Rattle.std.specs.Prelude.{◌≡◌, ◌+◌, ◌*◌, ◌/◌, ◌<◌, ◌≤◌, ℕ, ℤ, ◌+ℤ◌, suc, pos, List, Some, None, length, map, slice_index_or, if◌then◌else◌};
+ghost use Rattle.std.specs.Prelude.{◌≡◌, ◌+◌, ◌*◌, ◌/◌, ◌<◌, ◌≤◌, ℕ, ℤ, ◌+ℤ◌, suc, pos, List, None, length, map, slice_index_or, if◌then◌else◌};
 ghost use Rattle.kind_model.specs.Trellis.{states_of, may_be, metric};
-ghost use Rattle.viterbi_decoder.specs.Found.{found, behind, is_less, IsWithin, IsSum, AreSums};
+ghost use Rattle.viterbi_decoder.specs.Found.{found, behind, far, sum_in, is_less, IsWithin, IsSum, AreSums};
 
 use crate::decoder::Decoder;
 use numbers::Number;
+
+/// What stands for the sum of no path: more than the sum of any.
+const FAR: i64 = 1 << 62;
 
 /// Whether a state may be the one that is known.
 fn may_be(known: Option<u32>, state: usize) -> bool
@@ -17,7 +20,6 @@ fn may_be(known: Option<u32>, state: usize) -> bool
 }
 
 /// Whether there is a first sum, and it is less than the second, if there is one.
-#[inline(always)]
 pub(crate) fn is_less(sum: Option<i64>, than: Option<i64>) -> bool
     ensures { result ≡ is_less sum than }
 {
@@ -29,10 +31,17 @@ pub(crate) fn is_less(sum: Option<i64>, than: Option<i64>) -> bool
 }
 
 // The sum of a path without a step that begins in a state.
-fn first_sum(start: Option<u32>, state: usize) -> Option<i64>
-    ensures { result ≡ (if may_be start state then Some (pos 0) else None) }
+fn first_sum(start: Option<u32>, state: usize) -> i64
+    ensures { result ≡ (if may_be start state then pos 0 else far) }
 {
-    if may_be(start, state) { Some(0) } else { None }
+    if may_be(start, state) { 0 } else { FAR }
+}
+
+// The sum that a number stands for, where it is one.
+fn sum_in(sum: i64) -> Option<i64>
+    ensures { result ≡ sum_in sum }
+{
+    if sum == FAR { None } else { Some(sum) }
 }
 
 // The sum with one metric more.
@@ -49,7 +58,7 @@ impl Decoder {
     ghost use Rattle.viterbi_decoder.specs.Model.{trellis_of};
 
     // The sums of the paths without a step.
-    pub(crate) fn begin(&self, sums: &mut [Option<i64>])
+    pub(crate) fn begin(&self, sums: &mut [i64])
         requires { states_of (trellis_of self.now) ≤ length sums.old }
         ensures len { length sums.new ≡ length sums.old }
         ensures sums { (x : List ℤ) → AreSums (trellis_of self.now) x 0 sums.new }
@@ -60,22 +69,22 @@ impl Decoder {
     }
 
     // No sums, as before the first row.
-    pub(crate) fn clear(&self, sums: &mut [Option<i64>])
+    pub(crate) fn clear(&self, sums: &mut [i64])
         requires { states_of (trellis_of self.now) ≤ length sums.old }
         ensures len { length sums.new ≡ length sums.old }
-        ensures none { (s : ℕ) → s < states_of (trellis_of self.now) → slice_index_or sums.new s None ≡ None }
+        ensures none { (s : ℕ) → s < states_of (trellis_of self.now) → slice_index_or sums.new s (pos 0) ≡ far }
     {
         for state in 0..self.states as usize {
-            sums[state] = None;
+            sums[state] = FAR;
         }
     }
 
     // Copies the sums of all states.
-    pub(crate) fn keep(&self, from: &[Option<i64>], to: &mut [Option<i64>])
+    pub(crate) fn keep(&self, from: &[i64], to: &mut [i64])
         requires from { states_of (trellis_of self.now) ≤ length from.now }
         requires to { states_of (trellis_of self.now) ≤ length to.old }
         ensures len { length to.new ≡ length to.old }
-        ensures same { (s : ℕ) → s < states_of (trellis_of self.now) → slice_index_or to.new s None ≡ slice_index_or from.now s None }
+        ensures same { (s : ℕ) → s < states_of (trellis_of self.now) → slice_index_or to.new s (pos 0) ≡ slice_index_or from.now s (pos 0) }
     {
         for state in 0..self.states as usize {
             to[state] = from[state];
@@ -101,27 +110,28 @@ impl Decoder {
         metrics: &[T],
         step: usize,
         row: usize,
-        sum: Option<i64>,
-    ) -> Option<i64>
+        sum: i64,
+    ) -> i64
         requires metrics { length metrics.now ≡ self.now.steps * self.now.outputs }
         requires step { step < self.now.steps }
         requires row { row < length self.now.next.items }
-        requires sum { IsSum (trellis_of self.now) (map T.number metrics.now) step (found (trellis_of self.now) (map T.number metrics.now) step (row / self.now.symbols)) sum }
-        ensures { IsSum (trellis_of self.now) (map T.number metrics.now) (suc step) (behind (trellis_of self.now) (map T.number metrics.now) step row) result }
+        requires sum { IsSum (trellis_of self.now) (map T.number metrics.now) step (found (trellis_of self.now) (map T.number metrics.now) step (row / self.now.symbols)) (sum_in sum) }
+        ensures { IsSum (trellis_of self.now) (map T.number metrics.now) (suc step) (behind (trellis_of self.now) (map T.number metrics.now) step row) (sum_in result) }
     {
-        match sum {
-            Some(sum) => Some(added(sum, self.metric(metrics, step, row))),
-            None => None,
+        if sum == FAR {
+            FAR
+        } else {
+            added(sum, self.metric(metrics, step, row))
         }
     }
 
-    // What the path found to a state that may be the last costs.
-    pub(crate) fn end_sum(&self, sums: &[Option<i64>], state: usize) -> Option<i64>
+    // What the path found to a state that may be the last costs, where there is one.
+    pub(crate) fn end_sum(&self, sums: &[i64], state: usize) -> Option<i64>
         requires { state < length sums.now }
-        ensures { result ≡ (if may_be self.now.end state then slice_index_or sums.now state None else None) }
+        ensures { result ≡ (if may_be self.now.end state then sum_in (slice_index_or sums.now state (pos 0)) else None) }
     {
         if may_be(self.end, state) {
-            sums[state]
+            sum_in(sums[state])
         } else {
             None
         }

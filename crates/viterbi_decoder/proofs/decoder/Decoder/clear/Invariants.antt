@@ -1,9 +1,10 @@
-use Rattle.std.proofs.Common.{◌≡◌, ℕ, ◌<◌, length, None}
+use Rattle.std.proofs.Common.{◌≡◌, ℕ, ◌<◌, length, pos}
 use Rattle.std.specs.Prelude.{slice_index_or}
+use Rattle.viterbi_decoder.specs.Found.{far}
 use Rattle.viterbi_decoder.proofs.decoder.Decoder.clear.Given as goal
 
 abbrev pub invariant-loop-state : goal.invariant-loop-state
 invariant-loop-state l = record {
   len : length l.sums ≡ length l.fn.sums;
-  none : (s : ℕ) → s < l.state → slice_index_or l.sums s None ≡ None;
+  none : (s : ℕ) → s < l.state → slice_index_or l.sums s (pos 0) ≡ far;
 }

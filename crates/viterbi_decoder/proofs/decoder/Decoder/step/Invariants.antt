@@ -1,4 +1,4 @@
-use Rattle.std.proofs.Common.{◌≡◌, ℕ, ◌+◌, ◌*◌, ◌<◌, length, map}
+use Rattle.std.proofs.Common.{◌≡◌, ℕ, ◌*◌, ◌<◌, length, map}
 use Rattle.std.specs.Prelude.{slice_index_or}
 use Rattle.kind_model.specs.Trellis.{states_of}
 use Rattle.viterbi_decoder.specs.Found.{AreRows, AreHeld}
