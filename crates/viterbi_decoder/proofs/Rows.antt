@@ -54,7 +54,7 @@ cheapest-filtered f ways test i =
     choose true = ap (λ ps. joined f (cheapest f (flat_map ways (filter test (below i)))) (cheapest f ps)) (append-nil (ways i))
     choose false = joined-none f (cheapest f (flat_map ways (filter test (below i))))
 
-cheapest-ways : (m : Trellis) (x : List ℤ) (k r : ℕ) → cheapest (cost m x 0 (suc k)) (map (λ path. r ∷ path) (paths_to m k (r / m.symbols))) ≡ behind m x k r
+pub cheapest-ways : (m : Trellis) (x : List ℤ) (k r : ℕ) → cheapest (cost m x 0 (suc k)) (map (λ path. r ∷ path) (paths_to m k (r / m.symbols))) ≡ behind m x k r
 cheapest-ways m x k r =
     cheapest-behind (cost m x 0 (suc k)) r (paths_to m k (r / m.symbols))
     ∙ ap (option_map (λ path. r ∷ path)) (cheapest-shifted (cost m x 0 k) (metric m x 0 k r) (paths_to m k (r / m.symbols)))
@@ -67,7 +67,7 @@ found_by-more m x k i s =
     cheapest-filtered (cost m x 0 (suc k)) (λ r. map (λ path. r ∷ path) (paths_to m k (r / m.symbols))) (λ r. slice_index_or m.next r 0 == s) i
     ∙ ap (λ o. if slice_index_or m.next i 0 == s then joined (cost m x 0 (suc k)) (found_by m x k i s) o else found_by m x k i s) (cheapest-ways m x k i)
 
-last-behind : (r : ℕ) (o : Option (List ℕ)) (p : List ℕ) → option_map (λ path. r ∷ path) o ≡ Some p → (rest : List ℕ) × (p ≡ r ∷ rest) × (o ≡ Some rest)
+pub last-behind : (r : ℕ) (o : Option (List ℕ)) (p : List ℕ) → option_map (λ path. r ∷ path) o ≡ Some p → (rest : List ℕ) × (p ≡ r ∷ rest) × (o ≡ Some rest)
 last-behind r None p e = apart p e
 last-behind r (Some q) p e = (q, same q p e, refl)
   where

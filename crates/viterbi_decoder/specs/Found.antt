@@ -1,9 +1,9 @@
 -- What a decoder has of the paths that it has found.
-use Rattle.std.specs.Prelude.{◌≡◌, ℕ, suc, ◌+◌, ◌*◌, ◌/◌, ◌<◌, ◌==◌, Bool, true, false, ℤ, pos, neg_ℤ, ◌≤ℤ◌, List, ◌∷◌, int_lt, Option, All, None, Some, length, map, filter, flat_map, slice_index_or, if◌then◌else◌}
+use Rattle.std.specs.Prelude.{◌≡◌, ℕ, suc, ◌+◌, ◌*◌, ◌/◌, ◌<◌, ◌==◌, Bool, true, false, ℤ, pos, neg_ℤ, ◌≤ℤ◌, List, ◌≤◌, [], ◌∷◌, int_lt, Option, All, None, Some, length, map, filter, flat_map, slice_index_or, if◌then◌else◌}
 use Rattle.std.specs.Option.{option_map, ForSome}
 use Rattle.std.specs.Ordering.{int_eq}
 use Rattle.stream_model.specs.Lists.{below}
-use Rattle.kind_model.specs.Trellis.{Trellis, states_of, may_be, paths_to, cost, cheapest}
+use Rattle.kind_model.specs.Trellis.{Trellis, states_of, may_be, rows_to, paths_to, cost, cheapest}
 
 -- the path found among those of so many steps to a state
 abbrev pub found : Trellis → List ℤ → ℕ → ℕ → Option (List ℕ)
@@ -62,6 +62,31 @@ pub record AreLastRows (m : Trellis) (x : List ℤ) (k : ℕ) (rows : List ℕ) 
 pub record AreHeld (m : Trellis) (x : List ℤ) (k i : ℕ) (sums : List ℤ) (rows : List ℕ) : Type 0 where
   pub sums_are : (s : ℕ) → s < states_of m → IsSum m x (suc k) (found_by m x k i s) (sum_in (slice_index_or sums s (pos 0)))
   pub rows_are : (s : ℕ) → s < states_of m → IsLastRow m x k (found_by m x k i s) (slice_index_or rows (k * states_of m + s) 0)
+
+-- the state that each row below i leads from
+pub record AreFrom (m : Trellis) (i : ℕ) (from : List ℕ) : Type 0 where
+  pub each : (r : ℕ) → r < i → slice_index_or from r 0 ≡ r / m.symbols
+  pub within : All (λ s. s < states_of m) from
+
+-- of how many rows, and the last two of them, where there are at most two
+pub record IsListed (rows : List ℕ) (count early late : ℕ) : Type 0 where
+  pub none : count ≡ 0 → rows ≡ []
+  pub one : count ≡ 1 → rows ≡ late ∷ []
+  pub two : count ≡ 2 → rows ≡ early ∷ late ∷ []
+
+-- of the rows below i that lead to each state, how many there are, and the last two
+pub record AreListed (m : Trellis) (i : ℕ) (counts early late : List ℕ) : Type 0 where
+  pub few : (s : ℕ) → s < states_of m → slice_index_or counts s 0 ≤ i
+  pub each : (s : ℕ) → s < states_of m → IsListed (filter (λ r. slice_index_or m.next r 0 == s) (below i)) (slice_index_or counts s 0) (slice_index_or early s 0) (slice_index_or late s 0)
+
+-- the two rows that lead to each state
+pub record ArePairs (m : Trellis) (early late : List ℕ) : Type 0 where
+  pub each : (s : ℕ) → s < states_of m → rows_to m s ≡ slice_index_or early s 0 ∷ slice_index_or late s 0 ∷ []
+
+-- the sums and the last rows of the paths found of one step more, to each state below t
+pub record AreTaken (m : Trellis) (x : List ℤ) (k t : ℕ) (sums : List ℤ) (rows : List ℕ) : Type 0 where
+  pub sums_are : (s : ℕ) → s < t → IsSum m x (suc k) (found m x (suc k) s) (sum_in (slice_index_or sums s (pos 0)))
+  pub rows_are : (s : ℕ) → s < t → IsLastRow m x k (found m x (suc k) s) (slice_index_or rows (k * states_of m + s) 0)
 
 -- each is a row
 pub record AreRows (m : Trellis) (rows : List ℕ) : Type 0 where

@@ -1,7 +1,7 @@
 //! Machines, and how a block of metrics is decoded: step by step the cheapest path to each state, and then back along the one that is left.
-ghost use Rattle.std.specs.Prelude.{◌≡◌, ◌*◌, ◌<◌, ℕ, ℤ, List, Option, length, map, slice_index_or};
+ghost use Rattle.std.specs.Prelude.{◌≡◌, ◌*◌, ◌<◌, ◌≤◌, ℕ, ℤ, List, Option, length, map, slice_index_or};
 ghost use Rattle.kind_model.specs.Trellis.{IsTrellis, decoded, states_of};
-ghost use Rattle.viterbi_decoder.specs.Found.{trellis};
+ghost use Rattle.viterbi_decoder.specs.Found.{trellis, AreSums, AreLastRows, AreRows};
 
 use numbers::Number;
 
@@ -10,6 +10,9 @@ const STATES: usize = 1_024;
 
 /// The greatest number of steps of a block, each with a row for each state.
 const CHOICES: usize = 16_384;
+
+/// The greatest number of rows.
+const ROWS: usize = 4_096;
 
 // Writes zeros, where there is no path.
 fn no_symbols(out: &mut [u8])
@@ -80,6 +83,32 @@ impl Decoder {
         u64::from(self.steps) * u64::from(self.outputs)
     }
 
+    // Finds the paths of a block, where two rows lead to each state by going over these.
+    fn find<T: Number>(&self, metrics: &[T], sums: &mut [i64], after: &mut [i64], rows: &mut [u16])
+        requires metrics { length metrics.now ≡ self.now.steps * self.now.outputs }
+        requires long { states_of (trellis_of self.now) ≤ length sums.old }
+        requires long_after { states_of (trellis_of self.now) ≤ length after.old }
+        requires room { self.now.steps * states_of (trellis_of self.now) ≤ length rows.old }
+        requires sums { AreSums (trellis_of self.now) (map T.number metrics.now) 0 sums.old }
+        requires rows { AreRows (trellis_of self.now) rows.old }
+        ensures len { length sums.new ≡ length sums.old }
+        ensures rows_len { length rows.new ≡ length rows.old }
+        ensures sums { AreSums (trellis_of self.now) (map T.number metrics.now) self.now.steps sums.new }
+        ensures last { AreLastRows (trellis_of self.now) (map T.number metrics.now) self.now.steps rows.new }
+        ensures rows { AreRows (trellis_of self.now) rows.new }
+    {
+        let mut counts = [0; STATES];
+        let mut early = [0; STATES];
+        let mut late = [0; STATES];
+        if self.pair(&mut counts, &mut early, &mut late) {
+            let mut from = [0; ROWS];
+            self.list_states(&mut from);
+            self.go_pairs(metrics, &early, &late, &from, sums, after, rows);
+        } else {
+            self.go(metrics, sums, after, rows);
+        }
+    }
+
     /// Writes the symbols of a block of metrics: those of the first of the paths whose metrics have the least sum, and zeros where no path goes from the
     /// known start to the known end.
     pub fn decode<T: Number>(&self, metrics: &[T], out: &mut [u8])
@@ -93,7 +122,7 @@ impl Decoder {
         let mut after = [0; STATES];
         let mut rows = [0; CHOICES];
         self.begin(&mut sums);
-        self.go(metrics, &mut sums, &mut after, &mut rows);
+        self.find(metrics, &mut sums, &mut after, &mut rows);
         match self.last_state(&sums) {
             Some(last) => self.trace(&rows, last, out),
             None => no_symbols(out),

@@ -3,6 +3,7 @@
 
 pub mod decoder;
 mod ends;
+mod pairs;
 mod steps;
 mod sums;
 mod trace;

@@ -8,7 +8,7 @@ use numbers::Number;
 
 // The first of two values or the second. It is written in any case: which path costs less is hard for a processor to predict.
 #[inline(always)]
-fn chosen<T: Copy>(is_first: bool, first: T, second: T) -> T
+pub(crate) fn chosen<T: Copy>(is_first: bool, first: T, second: T) -> T
     ensures { result ≡ (if is_first then first else second) }
 {
     if is_first { first } else { second }
