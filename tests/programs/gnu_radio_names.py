@@ -35,7 +35,9 @@ IN_A_ROW = (
     "vocoder_ulaw_decode_bs",
 )
 # What is not just any number.
-VALUES = {"enabled": True, "append": False, "bits_per_byte": 1, "num_inputs": 1}
+VALUES = {"enabled": True, "append": False, "num_inputs": 1}
+# Numbers that choose which kinds stand for the block: those for which one kind alone does.
+CHOSEN = {"blocksize": 1, "bits_per_byte": 1, "count": 0}
 
 
 class AnySettings:
@@ -50,8 +52,8 @@ class AnySettings:
         return lambda *_: None
 
     def whole(self, key, least, most):
-        if key == "blocksize":
-            return 1
+        if key in CHOSEN:
+            return CHOSEN[key]
         # (of a mask, which a register reads whole, all bits; 1 is for what is true)
         first = most if key == "mask" else max((least + most) // 2, 2)
         number = next(it for it in range(first, most + 1) if it not in self.asked)
