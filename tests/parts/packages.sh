@@ -53,6 +53,8 @@ make_system() {
         [[ -z $kept ]] || cp -a -- "$system" "$kept"
     fi
     cp -- /etc/resolv.conf "$system/etc/resolv.conf"
+    # (debootstrap brings no file of hosts, and the driver of a browser is looked for at this name)
+    echo "127.0.0.1 localhost" >"$system/etc/hosts"
 }
 
 # install_all: the packages, with what they need of Debian
