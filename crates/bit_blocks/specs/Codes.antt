@@ -22,7 +22,8 @@ abbrev pub word_after : (ℕ → ℤ → ℕ) → ℕ → List ℤ → ℕ
 word_after next word [] = word
 word_after next word (z ∷ zs) = word_after next (next word z) zs
 
--- what a block with a register gives for a byte: its lowest bit plus the bits of the register that the mask has, modulo 2
+-- what a block with a register gives for a byte: its lowest bit plus the bits of the register that the mask has, modulo
+-- 2
 abbrev pub given_bit : ℕ → ℕ → ℕ → ℤ → ℕ
 given_bit bits mask word z = (residue z 2 + masked bits mask (places_of bits word)) % 2
 
@@ -46,11 +47,19 @@ summed modulus word z = residue (pos word +ℤ z) modulus
 pub record IsCode (m : Meaning) (start : ℕ) (is_word : ℕ → Type 0) (gives next : ℕ → ℤ → ℕ) : Type 0 where
   pub of_bytes : m ≡ record (sync Byte Byte) { start = start; word = m.word; out = m.out }
   pub words : (ts : List Held) (xs : List (List ℤ)) (a : ℕ) → is_word (m.word ts xs a)
-  pub given : (ts : List Held) (xs : List (List ℤ)) (a : ℕ) → a < length (input xs 0) → m.out ts xs 0 a ≡ pos (gives (m.word ts xs a) (item (input xs 0) a))
-  pub stepped : (ts : List Held) (xs : List (List ℤ)) (a : ℕ) → a < length (input xs 0) → m.word ts xs (a + 1) ≡ next (m.word ts xs a) (item (input xs 0) a)
+  pub given : (ts : List Held) (xs : List (List ℤ)) (a : ℕ) → a < length (input xs 0) → m.out ts xs 0 a
+      ≡ pos (gives (m.word ts xs a) (item (input xs 0) a))
+  pub stepped : (ts : List Held) (xs : List (List ℤ)) (a : ℕ) → a < length (input xs 0) → m.word ts xs (a + 1)
+      ≡ next (m.word ts xs a) (item (input xs 0) a)
 
-pub code-single : {m : Meaning} {start : ℕ} {is_word : ℕ → Type 0} {gives next : ℕ → ℤ → ℕ} → IsCode m start is_word gives next → IsSingle m
-code-single is = subst IsSingle (sym is.of_bytes) (record { in_least = refl; in_most = refl; out_least = refl; out_most = refl })
+pub code-single : {m : Meaning} {start : ℕ} {is_word : ℕ → Type 0} {gives next : ℕ → ℤ → ℕ}
+    → IsCode m start is_word gives next → IsSingle m
+code-single is = subst IsSingle (sym is.of_bytes) (record {
+  in_least = refl;
+  in_most = refl;
+  out_least = refl;
+  out_most = refl;
+})
 
 -- bytes, and an empty place with room for as many
 pub record CanCode (items out : Items) : Type 0 where

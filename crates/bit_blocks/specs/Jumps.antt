@@ -2,7 +2,8 @@
 use Rattle.std.specs.Prelude.{ℕ, ◌+◌, ◌*◌, ◌/◌, ◌%◌, ◌^◌, ◌<◌, ◌≡◌, List, [], ◌∷◌, bit_xor}
 use Rattle.kind_model.specs.Bits.{places_of, masked, register_of, shifted}
 
--- a matrix over two times a word, whose place i the column i is for: the columns of the places that the word has, added bit by bit
+-- a matrix over two times a word, whose place i the column i is for: the columns of the places that the word has, added
+-- bit by bit
 unfoldable pub product : List ℕ → ℕ → ℕ
 product [] word = 0
 product (c ∷ cs) word = bit_xor (word % 2 * c) (product cs (word / 2))
@@ -17,4 +18,5 @@ register_after bits mask init steps = register_of bits (shifted bits mask init s
 
 -- these columns make so many steps at once
 abbrev pub MakeSteps : ℕ → ℕ → ℕ → List ℕ → Type 0
-MakeSteps bits mask steps columns = (word : ℕ) → word < 2 ^ bits → product columns word ≡ register_after bits mask word steps
+MakeSteps bits mask steps columns = (word : ℕ) → word < 2 ^ bits → product columns word
+    ≡ register_after bits mask word steps

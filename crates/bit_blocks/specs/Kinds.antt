@@ -42,15 +42,18 @@ register_block_of meant b = meant b.register.bits b.register.mask b.register.ini
 
 -- what an additive scrambler goes on as behind so many items: one that begins with the register of then
 abbrev pub scrambler_after : {S : _} → RegisterBlock S → ℕ → Meaning
-scrambler_after b items = additive_scrambler b.register.bits b.register.mask (register_after b.register.bits b.register.mask b.register.init items)
+scrambler_after b items = additive_scrambler b.register.bits b.register.mask
+    (register_after b.register.bits b.register.mask b.register.init items)
 
 -- registers that the derived test finds equal are one
 pub same_register :
-    (f : ℕ → ℕ → ℕ → Meaning) (a b : Register) → (nat_eq a.bits b.bits && (nat_eq a.mask b.mask && nat_eq a.init b.init)) ≡ true →
+    (f : ℕ → ℕ → ℕ → Meaning) (a b : Register) → (nat_eq a.bits b.bits &&
+    (nat_eq a.mask b.mask && nat_eq a.init b.init)) ≡ true →
     f a.bits a.mask a.init ≡ f b.bits b.mask b.init
 same_register f a b e =
     let rest = second_so (nat_eq a.bits b.bits) (nat_eq a.mask b.mask && nat_eq a.init b.init) e in
-    let bits_same = same_number a.bits b.bits (first_so (nat_eq a.bits b.bits) (nat_eq a.mask b.mask && nat_eq a.init b.init) e) in
+    let bits_same = same_number a.bits b.bits (first_so (nat_eq a.bits b.bits)
+    (nat_eq a.mask b.mask && nat_eq a.init b.init) e) in
     let mask_same = same_number a.mask b.mask (first_so (nat_eq a.mask b.mask) (nat_eq a.init b.init) rest) in
     let init_same = same_number a.init b.init (second_so (nat_eq a.mask b.mask) (nat_eq a.init b.init) rest) in
     λ i. f (bits_same i) (mask_same i) (init_same i)
@@ -71,8 +74,10 @@ same_order LsbFirst LsbFirst e = refl
 
 -- and so are ways to cut bits
 pub repacking_of-same :
-    {K : _} (a b : Repacking K) → (sameb item.the_type a.item b.item && (nat_eq a.from b.from && (nat_eq a.to b.to && (sameb order.the_type a.read b.read
-    && (sameb order.the_type a.write b.write && (nat_eq a.taken b.taken && nat_eq a.given b.given)))))) ≡ true → repacking_of a ≡ repacking_of b
+    {K : _} (a b : Repacking K) → (sameb item.the_type a.item b.item &&
+    (nat_eq a.from b.from && (nat_eq a.to b.to && (sameb order.the_type a.read b.read
+    && (sameb order.the_type a.write b.write && (nat_eq a.taken b.taken && nat_eq a.given b.given)))))) ≡ true
+    → repacking_of a ≡ repacking_of b
 repacking_of-same a b e =
     let counts = nat_eq a.taken b.taken && nat_eq a.given b.given in
     let behind_read = sameb order.the_type a.write b.write && counts in
@@ -95,11 +100,15 @@ correlate_access_code_of b = correlate_access_code b.code b.length b.threshold
 
 -- blocks that the derived test finds equal mean the same
 pub correlate_access_code-same :
-    (a b : CorrelateAccessCode) → (nat_eq a.code b.code && (nat_eq a.length b.length && nat_eq a.threshold b.threshold)) ≡ true →
+    (a b : CorrelateAccessCode) → (nat_eq a.code b.code && (nat_eq a.length b.length && nat_eq a.threshold b.threshold))
+    ≡ true →
     correlate_access_code_of a ≡ correlate_access_code_of b
 correlate_access_code-same a b e =
     let rest = second_so (nat_eq a.code b.code) (nat_eq a.length b.length && nat_eq a.threshold b.threshold) e in
-    let code_same = same_number a.code b.code (first_so (nat_eq a.code b.code) (nat_eq a.length b.length && nat_eq a.threshold b.threshold) e) in
-    let length_same = same_number a.length b.length (first_so (nat_eq a.length b.length) (nat_eq a.threshold b.threshold) rest) in
-    let threshold_same = same_number a.threshold b.threshold (second_so (nat_eq a.length b.length) (nat_eq a.threshold b.threshold) rest) in
+    let code_same = same_number a.code b.code (first_so (nat_eq a.code b.code)
+    (nat_eq a.length b.length && nat_eq a.threshold b.threshold) e) in
+    let length_same = same_number a.length b.length (first_so (nat_eq a.length b.length)
+    (nat_eq a.threshold b.threshold) rest) in
+    let threshold_same = same_number a.threshold b.threshold (second_so (nat_eq a.length b.length)
+    (nat_eq a.threshold b.threshold) rest) in
     λ i. correlate_access_code (code_same i) (length_same i) (threshold_same i)

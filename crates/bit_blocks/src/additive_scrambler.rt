@@ -8,13 +8,14 @@ use crate::register::Register;
 use crate::register_block::RegisterBlock;
 use crate::scrambling::{Feed, Scrambling};
 
-/// An additive scrambler: each output is the input plus the next bit of a shift register with feedback, modulo 2. Only the lowest bit of a byte
-/// counts. GNU Radio's `additive_scrambler_bb` has the bits of its register in front of this sequence.
+/// An additive scrambler: each output is the input plus the next bit of a shift register with feedback, modulo 2. Only
+/// the lowest bit of a byte counts. GNU Radio's `additive_scrambler_bb` has the bits of its register in front of this
+/// sequence.
 pub type AdditiveScrambler = RegisterBlock<OwnFeed>;
 
 impl AdditiveScrambler {
-    /// The block that goes on where this one stands after so many items: it begins with the register of then. The time that this takes grows with the digits
-    /// of their number.
+    /// The block that goes on where this one stands after so many items: it begins with the register of then. The time
+    /// that this takes grows with the digits of their number.
     pub fn after(self, items: u64) -> AdditiveScrambler
         ensures { register_block_of additive_scrambler result ≡ scrambler_after self items }
     {

@@ -6,7 +6,8 @@ ghost use Rattle.bit_blocks.specs.Codes.{coded, word_after, CanCode, HasCoded};
 use items::Items;
 use std::mem;
 
-/// A code that gives a byte for a byte by a word, which the byte then changes. It is small and copied, so that no write of a byte can change it.
+/// A code that gives a byte for a byte by a word, which the byte then changes. It is small and copied, so that no write
+/// of a byte can change it.
 pub(crate) trait Coder: Copy {
     /// Whether the word can come up.
     ghost is_word: { Self → ℕ → Type 0 };

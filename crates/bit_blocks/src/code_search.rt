@@ -17,11 +17,13 @@ pub(crate) struct CodeSearch {
 }
 
 impl CodeSearch {
-    /// The bit, with bit 1 set where the word before it is near enough to the code and this many items have the code among them.
+    /// The bit, with bit 1 set where the word before it is near enough to the code and this many items have the code
+    /// among them.
     #[inline(always)]
     fn mark(self, word: u64, bit: u8, place: u64) -> u8
         requires { bit < 2 }
-        ensures { result ≡ bit + 2 * (if nat_le self.length place && nat_le (distance word self.code) self.threshold then 1 else 0) }
+        ensures { result ≡ bit + 2 * (if nat_le self.length place && nat_le (distance word self.code)
+            self.threshold then 1 else 0) }
     {
         let near = (word ^ self.code).count_ones() <= self.threshold;
         if u64::from(self.length) <= place && near {

@@ -8,9 +8,10 @@ use block_trait::{Batch, Block, ByPace, Held, Shape, Single, work_single};
 use item_dispatch::make_bytes;
 use items::{ItemType, Items};
 
-/// Delays bits by 64 items and sets bit 1 of the first item behind each access code. Bit 0 of an output is the lowest bit of the item 64 before it, 0 where
-/// there is none. Bit 1 is set where the items before that one, as many as the code has bits, differ from the code in at most `threshold` bits; items before
-/// the first are zeros, but no output at fewer items than the code has bits is marked. The highest bit of the code is the one that comes first.
+/// Delays bits by 64 items and sets bit 1 of the first item behind each access code. Bit 0 of an output is the lowest
+/// bit of the item 64 before it, 0 where there is none. Bit 1 is set where the items before that one, as many as the
+/// code has bits, differ from the code in at most `threshold` bits; items before the first are zeros, but no output at
+/// fewer items than the code has bits is marked. The highest bit of the code is the one that comes first.
 ///
 /// As GNU Radio's `correlate_access_code_bb`, whose code is text, and which takes any threshold.
 #[derive(Debug, Drop, PartialEq, Eq)]
@@ -36,10 +37,11 @@ fn is_code(code: u64, length: u32) -> bool
 impl CorrelateAccessCode {
     ghost use Rattle.bit_blocks.specs.Kinds.{correlate_access_code_of};
 
-    /// The block for the code of 1 to 64 bits, a number below `2 ^ length`, and a threshold of at most that length. `BadParameter` names the code or, where
-    /// that is right, the threshold.
+    /// The block for the code of 1 to 64 bits, a number below `2 ^ length`, and a threshold of at most that length.
+    /// `BadParameter` names the code or, where that is right, the threshold.
     pub fn new(code: u64, length: u32, threshold: u32) -> Result<CorrelateAccessCode, ParamFault>
-        ensures meaning { IfOk result (λ block. correlate_access_code_of block ≡ correlate_access_code code length threshold) }
+        ensures meaning { IfOk result (λ block. correlate_access_code_of block
+            ≡ correlate_access_code code length threshold) }
         ensures range { IsOk result ↔ ((1 ≤ length) × (length ≤ 64) × (code < 2 ^ length) × (threshold ≤ length)) }
         ensures bad_code { IsErrOf result (ParamFault.BadParameter Parameter.Code)
             ↔ (¬ ((1 ≤ length) × (length ≤ 64) × (code < 2 ^ length))) }

@@ -9,8 +9,9 @@ use crate::scrambling::{Feed, Scrambling, Shifting};
 use crate::sums::sum_behind;
 use items::Items;
 
-/// A self-synchronizing descrambler, which undoes `Scrambler`: each output is the input plus earlier inputs, modulo 2. Only the lowest bit of a byte
-/// counts. As GNU Radio's `descrambler_bb`, with mask and register in the order of `Register`.
+/// A self-synchronizing descrambler, which undoes `Scrambler`: each output is the input plus earlier inputs, modulo 2.
+/// Only the lowest bit of a byte counts. As GNU Radio's `descrambler_bb`, with mask and register in the order of
+/// `Register`.
 pub type Descrambler = RegisterBlock<InputFeed>;
 
 /// The register follows the inputs.
@@ -37,13 +38,15 @@ fn append(out: &mut Vec<u8>, more: &[u8])
     }
 }
 
-// Appends what is given for the bytes to an empty `out` with room for it, and answers the word behind them. Behind the first bytes each sum is of bytes
-// alone, so that many are made at a time, and the last bytes are the register at the end.
+// Appends what is given for the bytes to an empty `out` with room for it, and answers the word behind them. Behind the
+// first bytes each sum is of bytes alone, so that many are made at a time, and the last bytes are the register at the
+// end.
 fn descramble(register: &Register, start: u64, bytes: &[u8], out: &mut Vec<u8>) -> u64
     requires word { start < 2 ^ register.now.bits }
     requires empty { map pos out.old.items ≡ [] }
     requires room { length bytes.now ≤ vec_capacity out.old - vec_len out.old }
-    ensures items { map pos out.new.items ≡ coded (given_bit register.now.bits register.now.mask) (followed register.now.bits) start (map pos bytes.now) }
+    ensures items { map pos out.new.items ≡ coded (given_bit register.now.bits register.now.mask)
+        (followed register.now.bits) start (map pos bytes.now) }
     ensures word { result ≡ word_after (followed register.now.bits) start (map pos bytes.now) }
     ensures capacity { vec_capacity out.old ≤ vec_capacity out.new }
 {

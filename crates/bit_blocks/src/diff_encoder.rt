@@ -51,8 +51,8 @@ impl Coder for Modulus {
     }
 }
 
-// Writes the sums of the items, from a sum on, into an empty `out` with room for it, and answers the last sum. Where the compiler knows the
-// modulus, it needs no division.
+// Writes the sums of the items, from a sum on, into an empty `out` with room for it, and answers the last sum. Where
+// the compiler knows the modulus, it needs no division.
 fn sum_items(modulus: Modulus, state: u64, items: &Items, out: &mut Items) -> u64
     requires word { state < modulus.value }
     requires can { CanCode items.now out.old }

@@ -1,6 +1,7 @@
 //! Registers with feedback that go on by many steps at once.
 //!
-//! A step is linear over two, so it is a matrix, of which a register has a column for each place. Many steps are a power of it.
+//! A step is linear over two, so it is a matrix, of which a register has a column for each place. Many steps are a
+//! power of it.
 ghost use Rattle.std.specs.Prelude.{◌≡◌, ◌<◌, ◌≤◌, ◌^◌, map};
 ghost use Rattle.bit_blocks.specs.Jumps.{MakeSteps, product, register_after};
 
@@ -43,7 +44,8 @@ fn squared(columns: &[u64; MOST_BITS]) -> [u64; MOST_BITS]
     squared
 }
 
-/// What a register with feedback holds after so many steps. It takes a matrix times a matrix for each binary digit of their number.
+/// What a register with feedback holds after so many steps. It takes a matrix times a matrix for each binary digit of
+/// their number.
 pub(crate) fn register_after(register: &Register, steps: u64) -> u64
     ensures value { let r = register.now in result ≡ register_after r.bits r.mask r.init steps }
     ensures fits { result < 2 ^ register.now.bits }

@@ -8,9 +8,10 @@ use block_parameters::{ParamFault, Parameter};
 use items::ItemType;
 use kind_model::BitOrder;
 
-/// All bits of each item, one after the other, in items of `bits` bits. As GNU Radio's `packed_to_unpacked_xx`, its `endianness` the order in which an
-/// item's bits are taken: the first bit of an output is its highest in either order. But a firing takes whole rounds, as many items as fill whole outputs,
-/// so that of a last round that is not whole nothing is given, where GNU Radio's block gives each output that is full; and it has one stream.
+/// All bits of each item, one after the other, in items of `bits` bits. As GNU Radio's `packed_to_unpacked_xx`, its
+/// `endianness` the order in which an item's bits are taken: the first bit of an output is its highest in either order.
+/// But a firing takes whole rounds, as many items as fill whole outputs, so that of a last round that is not whole
+/// nothing is given, where GNU Radio's block gives each output that is full; and it has one stream.
 pub type PackedToUnpacked = Repacking<ToUnpacked>;
 
 /// Whole items become items of fewer bits.

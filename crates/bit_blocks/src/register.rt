@@ -9,8 +9,9 @@ use block_parameters::{ParamFault, Parameter};
 /// No register has more bits.
 pub(crate) const MOST_BITS: usize = 32;
 
-/// A shift register: how many bits it has, a mask of those that are summed, and what it holds at first. The lowest bit of both is the newest in the
-/// register; GNU Radio's mask and seed have the bits in reverse order, and its length is one less.
+/// A shift register: how many bits it has, a mask of those that are summed, and what it holds at first. The lowest bit
+/// of both is the newest in the register; GNU Radio's mask and seed have the bits in reverse order, and its length is
+/// one less.
 #[derive(Debug, Drop, PartialEq, Eq)]
 pub struct Register {
     /// How many bits: 2 to 32.
@@ -23,15 +24,16 @@ pub struct Register {
 }
 
 impl Register {
-    /// The register of 2 to 32 bits, with a mask of 1 to `2 ^ bits - 1` and an init of 0 to `2 ^ bits - 1`. `BadParameter` names the first that is
-    /// not so, in this order.
+    /// The register of 2 to 32 bits, with a mask of 1 to `2 ^ bits - 1` and an init of 0 to `2 ^ bits - 1`.
+    /// `BadParameter` names the first that is not so, in this order.
     pub fn new(bits: u32, mask: u64, init: u64) -> Result<Register, ParamFault>
         ensures bits { IfOk result (λ register. register.bits ≡ bits) }
         ensures mask { IfOk result (λ register. register.mask ≡ mask) }
         ensures init { IfOk result (λ register. register.init ≡ init) }
         ensures range { IsOk result ↔ IsRegister bits mask init }
         ensures bad_bits { IsErrOf result (ParamFault.BadParameter Parameter.Bits) ↔ ((bits < 2) ⊎ (32 < bits)) }
-        ensures bad_mask { IsErrOf result (ParamFault.BadParameter Parameter.Mask) ↔ ((2 ≤ bits) × (bits ≤ 32) × ((mask < 1) ⊎ (2 ^ bits ≤ mask))) }
+        ensures bad_mask { IsErrOf result (ParamFault.BadParameter Parameter.Mask)
+            ↔ ((2 ≤ bits) × (bits ≤ 32) × ((mask < 1) ⊎ (2 ^ bits ≤ mask))) }
         ensures bad_init { IsErrOf result (ParamFault.BadParameter Parameter.Init)
             ↔ ((2 ≤ bits) × (bits ≤ 32) × (1 ≤ mask) × (mask < 2 ^ bits) × (2 ^ bits ≤ init)) }
     {

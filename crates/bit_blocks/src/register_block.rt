@@ -7,7 +7,8 @@ use block_trait::{Batch, Block, ByPace, Held, Shape, Single, work_single};
 use items::{ItemType, Items};
 use std::marker::PhantomData;
 
-/// A block that gives the lowest bit of each byte plus the bits of a shift register that a mask has, modulo 2. `S` says what the register follows.
+/// A block that gives the lowest bit of each byte plus the bits of a shift register that a mask has, modulo 2. `S` says
+/// what the register follows.
 #[derive(Drop)]
 #[derive_where(Debug, PartialEq, Eq)]
 pub struct RegisterBlock<S> {

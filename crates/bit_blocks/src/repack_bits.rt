@@ -7,9 +7,10 @@ use block_parameters::{ParamFault, Parameter};
 use items::ItemType;
 use kind_model::BitOrder;
 
-/// The lowest `k` bits of each byte, one after the other, in bytes of `l` bits, in one order on both sides. As GNU Radio's `repack_bits_bb` without a
-/// length tag, its `endianness` the order; but a firing takes whole rounds, as many bytes as fill whole bytes of `l` bits, so that of a last round that
-/// is not whole nothing is given, where GNU Radio's block gives each byte that is full.
+/// The lowest `k` bits of each byte, one after the other, in bytes of `l` bits, in one order on both sides. As GNU
+/// Radio's `repack_bits_bb` without a length tag, its `endianness` the order; but a firing takes whole rounds, as many
+/// bytes as fill whole bytes of `l` bits, so that of a last round that is not whole nothing is given, where GNU Radio's
+/// block gives each byte that is full.
 pub type RepackBits = Repacking<ByteToByte>;
 
 /// Some bits of a byte become another number of them.
@@ -24,7 +25,8 @@ impl RepackBits {
         ensures meaning { IfOk result (λ block. repacking_of block ≡ repack_bits k l order) }
         ensures range { IsOk result ↔ ((1 ≤ k) × (k ≤ 8) × (1 ≤ l) × (l ≤ 8)) }
         ensures bad_k { IsErrOf result (ParamFault.BadParameter Parameter.K) ↔ ((k < 1) ⊎ (8 < k)) }
-        ensures bad_l { IsErrOf result (ParamFault.BadParameter Parameter.L) ↔ ((1 ≤ k) × (k ≤ 8) × ((l < 1) ⊎ (8 < l))) }
+        ensures bad_l { IsErrOf result (ParamFault.BadParameter Parameter.L)
+            ↔ ((1 ≤ k) × (k ≤ 8) × ((l < 1) ⊎ (8 < l))) }
     {
         if k < 1 || 8 < k {
             return Err(ParamFault::BadParameter(Parameter::K));

@@ -34,8 +34,8 @@ fn greatest_divisor(a: u32, b: u32) -> u32
     divisor
 }
 
-/// A block that goes from the lowest `from` bits of each item, in the order `read`, to items of `to` bits in the order `write`. `K` says which kind it is, since
-/// each is made of other parameters.
+/// A block that goes from the lowest `from` bits of each item, in the order `read`, to items of `to` bits in the order
+/// `write`. `K` says which kind it is, since each is made of other parameters.
 #[derive(Drop)]
 #[derive_where(Debug, PartialEq, Eq)]
 pub struct Repacking<K> {
@@ -96,7 +96,8 @@ impl<K> Repacking<K> {
         requires empty { numbers_of out.old ≡ [] }
         requires room { count ≤ spare_of out.old }
         ensures item_type { type_of out.new ≡ type_of out.old }
-        ensures numbers { numbers_of out.new ≡ repack self.now.item self.now.from self.now.to self.now.read self.now.write (numbers_of items.now) count }
+        ensures numbers { numbers_of out.new ≡ repack self.now.item self.now.from self.now.to self.now.read
+            self.now.write (numbers_of items.now) count }
         ensures room { spare_of out.old ≤ spare_of out.new + length (numbers_of out.new) }
     {
         let (from, to) = (self.from, self.to);

@@ -3,8 +3,8 @@
 use crate::register_block::RegisterBlock;
 use crate::scrambling::{Feed, Scrambling};
 
-/// A multiplicative scrambler: each output is the input plus earlier outputs, modulo 2. Only the lowest bit of a byte counts. GNU Radio's
-/// `scrambler_bb` gives the bits of its register first.
+/// A multiplicative scrambler: each output is the input plus earlier outputs, modulo 2. Only the lowest bit of a byte
+/// counts. GNU Radio's `scrambler_bb` gives the bits of its register first.
 pub type Scrambler = RegisterBlock<OutputFeed>;
 
 /// The register follows the outputs.

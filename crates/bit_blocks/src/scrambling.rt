@@ -31,7 +31,8 @@ pub trait Scrambling: Feed + Drop + Sized {
     fn code(register: &Register, start: u64, items: &Items, out: &mut Items) -> u64
         requires word { start < 2 ^ register.now.bits }
         requires can { CanCode items.now out.old }
-        ensures coded { HasCoded (given_bit register.now.bits register.now.mask) (fed_register Self.fed register.now.bits register.now.mask) start items.now out.new result }
+        ensures coded { HasCoded (given_bit register.now.bits register.now.mask)
+            (fed_register Self.fed register.now.bits register.now.mask) start items.now out.new result }
         ensures room { spare_of out.old ≤ spare_of out.new + length (numbers_of out.new) }
     {
         code(Shifting::<Self>::new(register), start, items, out)
@@ -39,7 +40,8 @@ pub trait Scrambling: Feed + Drop + Sized {
 
     /// The equation is this code of bytes, from what the register holds at first on.
     ghost coded: { (bits mask init : ℕ) → 2 ≤ bits
-        → IsCode (equation bits mask init) init (λ word. word < 2 ^ bits) (given_bit bits mask) (fed_register Self.fed bits mask) };
+        → IsCode (equation bits mask init) init (λ word. word < 2 ^ bits) (given_bit bits mask)
+        (fed_register Self.fed bits mask) };
 
     /// The laws that the runtime rests on.
     ghost lawful: { (bits mask init : ℕ) → init < 2 ^ bits → IsLawful (equation bits mask init) };

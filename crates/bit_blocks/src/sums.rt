@@ -34,20 +34,23 @@ fn add_place(register: &Register, place: u32, bytes: &[u8], sums: &mut [u8])
     requires place { place < register.now.bits }
     ensures same_length { length sums.new ≡ length sums.old }
     ensures sums { (k : ℕ) → k < length sums.old → slice_index_or sums.new k 0 % 2
-        ≡ (slice_index_or sums.old k 0 + register.now.mask / 2 ^ place % 2 * slice_index_or bytes.now (MOST_BITS - 1 - place + k) 0) % 2 }
+        ≡ (slice_index_or sums.old k 0 + register.now.mask / 2 ^ place % 2 * slice_index_or bytes.now
+        (MOST_BITS - 1 - place + k) 0) % 2 }
 {
     if (register.mask >> place) % 2 == 1 {
         add_bytes(&bytes[MOST_BITS - 1 - place as usize..], sums);
     }
 }
 
-/// Over each byte of `sums`, which are the bytes from place `MOST_BITS` on, its sum with those before it that the mask has, modulo 2.
+/// Over each byte of `sums`, which are the bytes from place `MOST_BITS` on, its sum with those before it that the mask
+/// has, modulo 2.
 fn masked_sums(register: &Register, bytes: &[u8], sums: &mut [u8])
     requires there { length bytes.now ≡ MOST_BITS + length sums.old }
     requires behind { sums.old ≡ drop MOST_BITS bytes.now }
     ensures same_length { length sums.new ≡ length sums.old }
     ensures sums { (k : ℕ) → k < length sums.old → slice_index_or sums.new k 0
-        ≡ (low_bit (map pos bytes.now) (MOST_BITS + k) + masked_before register.now.bits register.now.mask (map pos bytes.now) (MOST_BITS + k)) % 2 }
+        ≡ (low_bit (map pos bytes.now) (MOST_BITS + k) + masked_before register.now.bits register.now.mask
+        (map pos bytes.now) (MOST_BITS + k)) % 2 }
 {
     for place in 0..register.bits {
         add_place(register, place, bytes, sums);
@@ -63,7 +66,8 @@ pub(crate) fn sum_behind(register: &Register, bytes: &[u8], out: &mut [u8])
     ensures same_length { length out.new ≡ length out.old }
     ensures first { take MOST_BITS out.new ≡ take MOST_BITS out.old }
     ensures sums { (k : ℕ) → MOST_BITS + k < length bytes.now → slice_index_or out.new (MOST_BITS + k) 0
-        ≡ (low_bit (map pos bytes.now) (MOST_BITS + k) + masked_before register.now.bits register.now.mask (map pos bytes.now) (MOST_BITS + k)) % 2 }
+        ≡ (low_bit (map pos bytes.now) (MOST_BITS + k) + masked_before register.now.bits register.now.mask
+        (map pos bytes.now) (MOST_BITS + k)) % 2 }
 {
     masked_sums(register, bytes, &mut out[MOST_BITS..]);
 }

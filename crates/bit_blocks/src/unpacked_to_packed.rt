@@ -8,10 +8,11 @@ use block_parameters::{ParamFault, Parameter};
 use items::ItemType;
 use kind_model::BitOrder;
 
-/// The lowest `bits` bits of each item, one after the other, in items that they fill: it undoes `PackedToUnpacked`. As GNU Radio's
-/// `unpacked_to_packed_xx`, its `endianness` the order in which an output is filled: the first bit of an item taken is its highest in either order. But a
-/// firing takes whole rounds, as many items as fill whole outputs, so that of a last round that is not whole nothing is given, where GNU Radio's block
-/// gives each output that is full; and it has one stream.
+/// The lowest `bits` bits of each item, one after the other, in items that they fill: it undoes `PackedToUnpacked`. As
+/// GNU Radio's `unpacked_to_packed_xx`, its `endianness` the order in which an output is filled: the first bit of an
+/// item taken is its highest in either order. But a firing takes whole rounds, as many items as fill whole outputs, so
+/// that of a last round that is not whole nothing is given, where GNU Radio's block gives each output that is full; and
+/// it has one stream.
 pub type UnpackedToPacked = Repacking<ToPacked>;
 
 /// The lowest bits of items become whole items.

@@ -19,7 +19,8 @@ pub record IsSingle (m : Meaning) : Type 0 where
 abbrev pub IsFillOf : Meaning → List model.Held → List (List ℤ) → Batch → Type 0
 IsFillOf m ts xs b = IsFed m ts xs b.first b.count b.state (numbers_of b.window.now ∷ []) (map held_of b.held.now)
 
--- what comes from some streams and settings, where each value that was set is one that the block takes, over counts that fit a word
+-- what comes from some streams and settings, where each value that was set is one that the block takes, over counts
+-- that fit a word
 pub record CanFill (m : Meaning) (b : Batch) (out : Items) : Type 0 where
   pub settings : List model.Held
   pub streams : List (List ℤ)
@@ -33,4 +34,5 @@ pub record CanFill (m : Meaning) (b : Batch) (out : Items) : Type 0 where
 
 -- exactly what the firings give
 abbrev pub HasFilled : Meaning → Batch → Items → Type 0
-HasFilled m b out = (ts : List model.Held) (xs : List (List ℤ)) → IsFillOf m ts xs b → numbers_of out ≡ given_items m ts xs b.first b.count 0
+HasFilled m b out = (ts : List model.Held) (xs : List (List ℤ)) → IsFillOf m ts xs b → numbers_of out
+    ≡ given_items m ts xs b.first b.count 0

@@ -25,6 +25,8 @@ pub same_number : (m n : ℕ) → nat_eq m n ≡ true → m ≡ n
 same_number m n e = eqb-true m n e
 
 -- blocks of a type and a number, where both are equal
-pub same_sized : (f : ItemType → ℕ → Meaning) (s t : ItemType) (m n : ℕ) → (sameb the_type s t && nat_eq m n) ≡ true → f s m ≡ f t n
+pub same_sized : (f : ItemType → ℕ → Meaning) (s t : ItemType) (m n : ℕ) → (sameb the_type s t && nat_eq m n) ≡ true
+    → f s m ≡ f t n
 same_sized f s t m n e =
-    ap₂ f (same_item s t (first_so (sameb the_type s t) (nat_eq m n) e)) (same_number m n (second_so (sameb the_type s t) (nat_eq m n) e))
+    ap₂ f (same_item s t (first_so (sameb the_type s t) (nat_eq m n) e))
+    (same_number m n (second_so (sameb the_type s t) (nat_eq m n) e))

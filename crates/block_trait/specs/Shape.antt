@@ -63,7 +63,8 @@ pub record IsPacedAt (m : Meaning) (p d i : ℕ) : Type 0 where
   pub given : (k : ℕ) → m.given k ≡ i * k
   pub place : (s : ℕ) → m.place p s ≡ place_at_rate d i s
 
--- on input p, d items taken in a firing; of the i given, these are the next d behind b others, and a tag stays on its item
+-- on input p, d items taken in a firing; of the i given, these are the next d behind b others, and a tag stays on its
+-- item
 pub record IsTakingTurns (m : Meaning) (p d i b : ℕ) : Type 0 where
   pub some : 1 ≤ d
   pub rate : m.rate p ≡ Some (d, i)

@@ -33,9 +33,10 @@ most_windows Work inputs = inputs.most
 most_windows Keep inputs = inputs.most
 most_windows Discard inputs = inputs.most
 
--- what `work` may be called with: what comes from some streams and settings, where each value that was set is one that the block takes,
--- over counts that fit a word
-pub record CanWork (m : Meaning) (first n state : ℕ) (windows : List Items) (held : List Held) (out : List Items) : Type 0 where
+-- what `work` may be called with: what comes from some streams and settings, where each value that was set is one that
+-- the block takes, over counts that fit a word
+pub record CanWork (m : Meaning) (first n state : ℕ) (windows : List Items) (held : List Held) (out : List Items) : Type
+    0 where
   pub settings : List model.Held
   pub streams : List (List ℤ)
   pub fed : IsWorkOf m settings streams first n state windows held
@@ -50,8 +51,12 @@ pub record CanWork (m : Meaning) (first n state : ℕ) (windows : List Items) (h
   pub takes : (p : ℕ) → p < length windows → m.taken p (first + n) < 2 ^ 63
   pub gives : m.given (first + n) < 2 ^ 63
 
--- what `work` has written: on each output exactly what the firings give, and no place has less room than before, with what it now holds
-pub record HasWorked (m : Meaning) (first n state : ℕ) (windows : List Items) (held : List Held) (old new : List Items) : Type 0 where
-  pub items : (ts : List model.Held) (xs : List (List ℤ)) → IsWorkOf m ts xs first n state windows held → map numbers_of new ≡ given_outputs m ts xs first n (length old)
+-- what `work` has written: on each output exactly what the firings give, and no place has less room than before, with
+-- what it now holds
+pub record HasWorked (m : Meaning) (first n state : ℕ) (windows : List Items) (held : List Held) (old new : List Items)
+    : Type 0 where
+  pub items : (ts : List model.Held) (xs : List (List ℤ)) → IsWorkOf m ts xs first n state windows held
+      → map numbers_of new ≡ given_outputs m ts xs first n (length old)
   pub types : map type_of new ≡ map type_of old
-  pub room : (p : ℕ) (d : Items) → p < length old → spare_of (slice_index_or old p d) ≤ spare_of (slice_index_or new p d) + length (numbers_of (slice_index_or new p d))
+  pub room : (p : ℕ) (d : Items) → p < length old → spare_of (slice_index_or old p d) ≤ spare_of
+      (slice_index_or new p d) + length (numbers_of (slice_index_or new p d))

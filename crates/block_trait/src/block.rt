@@ -28,7 +28,8 @@ pub trait Block: Eq + Drop {
     /// Where the block puts tags, if its pace is `Placed`. A block with another pace uses `ByPace`.
     type Places: Placing<Self>;
 
-    /// Everything of the block but its equation, with the pace of an input. The other methods read it. It takes no memory.
+    /// Everything of the block but its equation, with the pace of an input. The other methods read it. It takes no
+    /// memory.
     fn shape(&self, input: usize) -> Shape<'_>
         ensures shape { IsShape (meaning self.now) input result }
         ensures placed { IsPlacedBy (meaning self.now) (Self.Places.place_of self.now) input result.pace };
@@ -54,7 +55,8 @@ pub trait Block: Eq + Drop {
         self.shape(0).outputs
     }
 
-    /// How many items of an input a firing takes, and how many it gives on each output. A block that shifts its stream has no rate.
+    /// How many items of an input a firing takes, and how many it gives on each output. A block that shifts its stream
+    /// has no rate.
     final fn rate(&self, input: usize) -> Option<(u64, u64)>
         ensures { result ≡ (meaning self.now).rate input }
     {
@@ -131,7 +133,8 @@ pub trait Block: Eq + Drop {
         }
     }
 
-    /// A copy of the block's own parameter, which a setting may replace, if it has one. It fails only where the allocator refuses, and only of taps.
+    /// A copy of the block's own parameter, which a setting may replace, if it has one. It fails only where the
+    /// allocator refuses, and only of taps.
     final fn own(&self, alloc: Global) -> Result<Option<Value>, AllocError>
         ensures { IfOk result (λ own. option_map value_of own ≡ (meaning self.now).own) }
     {
@@ -149,9 +152,10 @@ pub trait Block: Eq + Drop {
         self.shape(0).start
     }
 
-    /// Does firings `first` to below `first + count`: writes what they give into the empty places `out`, one for each used output, and returns the
-    /// state word after them. `state` is the word before them, `windows` has for each used input the items that they take behind the past that they
-    /// read, and `held` the settings in force over these items. It takes no memory, and no place loses any.
+    /// Does firings `first` to below `first + count`: writes what they give into the empty places `out`, one for each
+    /// used output, and returns the state word after them. `state` is the word before them, `windows` has for each used
+    /// input the items that they take behind the past that they read, and `held` the settings in force over these
+    /// items. It takes no memory, and no place loses any.
     fn work(
         &self,
         state: u64,
@@ -163,7 +167,8 @@ pub trait Block: Eq + Drop {
     ) -> u64
         requires { CanWork (meaning self.now) first count state windows.now held.now out.old }
         ensures items { HasWorked (meaning self.now) first count state windows.now held.now out.old out.new }
-        ensures word { (ts : List model.Held) (xs : List (List ℤ)) → IsWorkOf (meaning self.now) ts xs first count state windows.now held.now
+        ensures word { (ts : List model.Held) (xs : List (List ℤ)) → IsWorkOf (meaning self.now) ts xs first count state
+            windows.now held.now
             → result ≡ (meaning self.now).word ts xs (first + count) };
 
     /// The laws that the runtime rests on.

@@ -9,7 +9,8 @@ use stream_model::{ItemType, Role, Signature};
 pub enum Pace {
     /// So many items taken and so many given in a firing. A tag goes to the nearest item; ties round up.
     Rate(u64, u64),
-    /// So many items taken, and so many given of which these are the next behind so many others. A tag stays on its item.
+    /// So many items taken, and so many given of which these are the next behind so many others. A tag stays on its
+    /// item.
     Turns(u64, u64, u64),
     /// So many items taken and so many given in a firing. A tag goes where the block's `Places` puts it.
     Placed(u64, u64),

@@ -29,8 +29,8 @@ pub trait Single {
     /// What the block means.
     ghost equation: { Self → Meaning };
 
-    /// Does the firings of a batch: writes what they give into the empty `out`, and returns the state word after them. It takes no memory, and `out`
-    /// loses none.
+    /// Does the firings of a batch: writes what they give into the empty `out`, and returns the state word after them.
+    /// It takes no memory, and `out` loses none.
     fn fill(&self, batch: &Batch<'_>, out: &mut Items) -> u64
         requires { CanFill (equation self.now) batch.now out.old }
         ensures items { HasFilled (equation self.now) batch.now out.new }
@@ -55,7 +55,8 @@ pub fn work_single<S: Single>(
 ) -> u64
     requires { CanWork (S.equation block.now) first count state windows.now held.now out.old }
     ensures items { HasWorked (S.equation block.now) first count state windows.now held.now out.old out.new }
-    ensures word { (ts : List model.Held) (xs : List (List ℤ)) → IsWorkOf (S.equation block.now) ts xs first count state windows.now held.now
+    ensures word { (ts : List model.Held) (xs : List (List ℤ)) → IsWorkOf (S.equation block.now) ts xs first count state
+        windows.now held.now
         → result ≡ (S.equation block.now).word ts xs (first + count) }
 {
     let batch = Batch {

@@ -21,8 +21,8 @@ ring_of (Byte r) = r
 ring_of (Short r) = r
 ring_of (Int r) = r
 
--- an output's buffer: the type of its items, the ring that holds them, the tags that it keeps, and how many more of them fit
--- before memory is needed
+-- an output's buffer: the type of its items, the ring that holds them, the tags that it keeps, and how many more of
+-- them fit before memory is needed
 pub record BufferState : Type 0 where
   pub item : ItemType
   pub ring : RingState

@@ -19,8 +19,8 @@ use std::fmt;
 use std::marker::Model;
 use tags::{Tag, Tags};
 
-/// The buffer of an output. It keeps of the output's stream what a live reader may still take: for each its unread items
-/// with the history before them, and the tags at or behind the place of the slowest.
+/// The buffer of an output. It keeps of the output's stream what a live reader may still take: for each its unread
+/// items with the history before them, and the tags at or behind the place of the slowest.
 pub struct Buffer {
     rings: Rings,
     tags: Tags,
@@ -53,8 +53,8 @@ impl Model for Buffer {
 }
 
 impl Buffer {
-    /// An empty buffer for items of a type, whose readers may each have `capacity` unread items and a history of `greatest`.
-    /// `Memory` comes only where the allocator refuses.
+    /// An empty buffer for items of a type, whose readers may each have `capacity` unread items and a history of
+    /// `greatest`. `Memory` comes only where the allocator refuses.
     pub fn new(
         alloc: Global,
         item: ItemType,
@@ -80,8 +80,8 @@ impl Buffer {
         self.rings.item_type()
     }
 
-    /// Adds a reader, which sees up to each item `history` items, that one included. `Memory` comes only where the allocator
-    /// refuses.
+    /// Adds a reader, which sees up to each item `history` items, that one included. `Memory` comes only where the
+    /// allocator refuses.
     pub fn add_reader(&mut self, history: u32) -> Result<Reader, RingFault>
         requires fresh { self.old.ring.written ≡ 0 }
         requires no_tags { self.old.tags ≡ [] }
@@ -109,7 +109,8 @@ impl Buffer {
         self.tags.reserve(n)
     }
 
-    /// Writes items, and tags at or behind the first of them. It takes no memory. Where no reader is left, tags are not kept.
+    /// Writes items, and tags at or behind the first of them. It takes no memory. Where no reader is left, tags are not
+    /// kept.
     pub fn push(&mut self, items: &Items, tags: &[Tag])
         requires same_type { typed.type_of items.now ≡ self.old.item }
         requires room { length (numbers_of items.now) ≤ room_of self.old.ring }
@@ -120,8 +121,10 @@ impl Buffer {
         ensures ring { self.new.ring ≡ with_items self.old.ring (numbers_of items.now) }
         ensures tags { self.new.tags ≡ wanted_tags self.old.ring (insert_tags (map tag_of tags.now) self.old.tags) }
         ensures spare { self.new.spare + length self.new.tags ≡ self.old.spare + length self.old.tags }
-        ensures stream { (stream : List ℤ) → IsEndOf self.old.ring stream → IsEndOf self.new.ring (stream ++ numbers_of items.now) }
-        ensures stream_tags { (whole : List model.Tag) → KeepsTagsOf self.old whole → KeepsTagsOf self.new (insert_tags (map tag_of tags.now) whole) }
+        ensures stream { (stream : List ℤ) → IsEndOf self.old.ring stream
+            → IsEndOf self.new.ring (stream ++ numbers_of items.now) }
+        ensures stream_tags { (whole : List model.Tag) → KeepsTagsOf self.old whole
+            → KeepsTagsOf self.new (insert_tags (map tag_of tags.now) whole) }
     {
         insert_wanted(&mut self.tags, self.rings.slowest(), tags);
         self.rings.push_slice(items);
@@ -153,7 +156,8 @@ impl Buffer {
     pub fn items(&self) -> usize
         ensures value { result ≡ length self.now.ring.kept }
         ensures all { result ≡ min self.now.ring.written (most_kept self.now.ring.capacity self.now.ring.greatest) }
-        ensures near { IfSome (slowest_of self.now.ring.readers) (λ place. self.now.ring.written ≤ place + self.now.ring.capacity) }
+        ensures near { IfSome (slowest_of self.now.ring.readers) (λ place.
+            self.now.ring.written ≤ place + self.now.ring.capacity) }
     {
         let _ = self.rings.written();
         let _ = self.rings.slowest();
@@ -178,8 +182,8 @@ impl Buffer {
         self.rings.history(reader)
     }
 
-    /// Appends what the reader sees with its next `count` items: the items before its place that its history has, with zeros
-    /// before item 0, and those `count`. It takes no memory.
+    /// Appends what the reader sees with its next `count` items: the items before its place that its history has, with
+    /// zeros before item 0, and those `count`. It takes no memory.
     pub fn window(&self, reader: Reader, count: usize, out: &mut Items)
         requires same_type { typed.type_of out.old ≡ self.now.item }
         requires live { IsLive self.now.ring reader }
@@ -188,7 +192,8 @@ impl Buffer {
         ensures same_type { typed.type_of out.new ≡ typed.type_of out.old }
         ensures items { (stream : List ℤ) → IsEndOf self.now.ring stream →
             let place = (reader_at self.now.ring reader).place in
-            numbers_of out.new ≡ numbers_of out.old ++ window stream (past_of self.now.ring reader) place (place + count) }
+            numbers_of out.new ≡ numbers_of out.old ++ window stream (past_of self.now.ring reader) place
+            (place + count) }
         ensures len { length (numbers_of out.new) ≡ length (numbers_of out.old) + past_of self.now.ring reader + count }
         ensures spare { spare_of out.old ≤ spare_of out.new + past_of self.now.ring reader + count }
     {
@@ -202,7 +207,8 @@ impl Buffer {
         requires unread { count ≤ unread_of self.now.ring reader }
         ensures { (stream : List ℤ) → IsEndOf self.now.ring stream →
             let place = (reader_at self.now.ring reader).place in
-            IsTrue result ↔ (numbers_of items.now ≡ window stream (past_of self.now.ring reader) place (place + count)) }
+            IsTrue result ↔ (numbers_of items.now ≡ window stream (past_of self.now.ring reader) place
+            (place + count)) }
     {
         self.rings.is_window(reader, count, items)
     }
@@ -211,15 +217,18 @@ impl Buffer {
     pub fn tags(&self, reader: Reader, count: usize) -> &[Tag]
         requires live { IsLive self.now.ring reader }
         requires unread { count ≤ unread_of self.now.ring reader }
-        ensures kept { let place = (reader_at self.now.ring reader).place in map tag_of result.now ≡ tags_within place (place + count) self.now.tags }
+        ensures kept { let place = (reader_at self.now.ring reader).place in map tag_of result.now
+            ≡ tags_within place (place + count) self.now.tags }
         ensures stream_tags { (whole : List model.Tag) → KeepsTagsOf self.now whole →
-            let place = (reader_at self.now.ring reader).place in map tag_of result.now ≡ tags_within place (place + count) whole }
+            let place = (reader_at self.now.ring reader).place in map tag_of result.now
+            ≡ tags_within place (place + count) whole }
     {
         let place = self.rings.place(reader);
         self.tags.range(place, place + count as u64)
     }
 
-    /// How many tags lie on items that were written, from the slowest live reader's place on; none where no reader is left.
+    /// How many tags lie on items that were written, from the slowest live reader's place on; none where no reader is
+    /// left.
     pub fn tags_kept(&self) -> usize
         ensures value { result ≡ length (tags_within 0 self.now.ring.written self.now.tags) }
         ensures none { slowest_of self.now.ring.readers ≡ None → result ≡ 0 }
@@ -242,7 +251,8 @@ impl Buffer {
         prune(&mut self.tags, self.rings.slowest());
     }
 
-    /// The buffer waits for the reader no longer. Tags before the slowest live reader are forgotten, all where none is left.
+    /// The buffer waits for the reader no longer. Tags before the slowest live reader are forgotten, all where none is
+    /// left.
     pub fn drop_reader(&mut self, reader: Reader)
         requires { IsLive self.old.ring reader }
         ensures item { self.new.item ≡ self.old.item }
@@ -260,7 +270,8 @@ impl Buffer {
 // Inserts tags where a reader is left to take them.
 fn insert_wanted(tags: &mut Tags, slowest: Option<u64>, more: &[Tag])
     requires { length more.now ≤ tags.old.spare }
-    ensures tags { tags.new.tags ≡ option_map_or (λ _. insert_tags (map tag_of more.now) tags.old.tags) slowest tags.old.tags }
+    ensures tags { tags.new.tags ≡ option_map_or (λ _. insert_tags (map tag_of more.now) tags.old.tags) slowest
+        tags.old.tags }
     ensures spare { tags.new.spare + length tags.new.tags ≡ tags.old.spare + length tags.old.tags }
 {
     match slowest {

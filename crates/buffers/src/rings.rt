@@ -148,7 +148,8 @@ impl Rings {
         requires small { (ring_of self.old).written + length (numbers_of items.now) < 2 ^ 62 }
         ensures item { type_of self.new ≡ type_of self.old }
         ensures value { ring_of self.new ≡ with_items (ring_of self.old) (numbers_of items.now) }
-        ensures stream { (stream : List ℤ) → IsEndOf (ring_of self.old) stream → IsEndOf (ring_of self.new) (stream ++ numbers_of items.now) }
+        ensures stream { (stream : List ℤ) → IsEndOf (ring_of self.old) stream
+            → IsEndOf (ring_of self.new) (stream ++ numbers_of items.now) }
     {
         on_ring_and_items!(self, items, (ring, values) => ring.push_slice(values))
     }
@@ -161,8 +162,10 @@ impl Rings {
         ensures same_type { typed.type_of out.new ≡ typed.type_of out.old }
         ensures items { (stream : List ℤ) → IsEndOf (ring_of self.now) stream →
             let place = (reader_at (ring_of self.now) reader).place in
-            numbers_of out.new ≡ numbers_of out.old ++ window stream (past_of (ring_of self.now) reader) place (place + count) }
-        ensures len { length (numbers_of out.new) ≡ length (numbers_of out.old) + past_of (ring_of self.now) reader + count }
+            numbers_of out.new ≡ numbers_of out.old ++ window stream (past_of (ring_of self.now) reader) place
+            (place + count) }
+        ensures len { length (numbers_of out.new) ≡ length (numbers_of out.old) + past_of (ring_of self.now)
+            reader + count }
         ensures spare { spare_of out.old ≤ spare_of out.new + past_of (ring_of self.now) reader + count }
     {
         on_ring_and_items!(self, out, (ring, values) => ring.window(reader, count, values))
@@ -174,7 +177,8 @@ impl Rings {
         requires unread { count ≤ unread_of (ring_of self.now) reader }
         ensures { (stream : List ℤ) → IsEndOf (ring_of self.now) stream →
             let place = (reader_at (ring_of self.now) reader).place in
-            IsTrue result ↔ (numbers_of items.now ≡ window stream (past_of (ring_of self.now) reader) place (place + count)) }
+            IsTrue result ↔ (numbers_of items.now ≡ window stream (past_of (ring_of self.now) reader) place
+            (place + count)) }
     {
         on_ring_and_items!(self, items, (ring, values) => ring.is_window(reader, count, values))
     }

@@ -144,8 +144,8 @@ impl<W: Write> ByteOut for WriteEnd<W> {
     }
 }
 
-/// Writes all of the piece. A write that takes nothing failed. No failed write is tried again, an interrupted one neither, and before it a beginning may
-/// have been written.
+/// Writes all of the piece. A write that takes nothing failed. No failed write is tried again, an interrupted one
+/// neither, and before it a beginning may have been written.
 pub fn write_whole<W: Write>(writer: &mut W, piece: &[u8]) -> io::Result<()>
     ensures ok { OnOk result (Appends (W.contents writer.old) (W.contents writer.new) piece.now) }
     ensures err { OnErr result (AppendsBeginning (W.contents writer.old) (W.contents writer.new) piece.now) }

@@ -1,6 +1,7 @@
 //! Where bytes come from and where they go.
 //!
-//! [`ByteIn`] and [`ByteOut`] count what failed, so that a caller who is told only the end can tell that a read or a write failed before.
+//! [`ByteIn`] and [`ByteOut`] count what failed, so that a caller who is told only the end can tell that a read or a
+//! write failed before.
 #![tactic(auto)]
 
 pub mod ends;

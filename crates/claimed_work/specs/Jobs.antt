@@ -27,7 +27,15 @@ pub record WorkedState (B : Type 0) : Type 0 where
 -- a job as the model has it
 abbrev pub job_of : ℕ → ℕ → ℕ → ℕ → List Items → List Held → ℕ → Job
 job_of outputs block first count windows held word =
-    record { block = block; outputs = outputs; first = first; count = count; windows = map numbers_of windows; held = map held_of held; word = word }
+    record {
+      block = block;
+      outputs = outputs;
+      first = first;
+      count = count;
+      windows = map numbers_of windows;
+      held = map held_of held;
+      word = word;
+    }
 
 -- the job of firings that were claimed
 abbrev pub job_in : {B P : Type 0} → Claimed B P → Job
@@ -39,8 +47,8 @@ CanDo net job windows held out =
     let n = node_at net job.block in
     CanWork n.meaning (n.multiple * job.first) (n.multiple * job.count) job.word windows held out
 
--- the job's windows and settings are those of some streams under some settings, each of which has a value that the block takes; it has as many
--- windows as the block can have
+-- the job's windows and settings are those of some streams under some settings, each of which has a value that the
+-- block takes; it has as many windows as the block can have
 pub record WasFed (net : Network) (job : Job) : Type 0 where
   pub settings : List model.Held
   pub streams : List (List ℤ)
@@ -60,10 +68,12 @@ AreGiven net b outputs = All (λ out. type_of out ≡ (node_at net b).meaning.ou
 -- outputs and word are those of the firings, of whatever streams and settings the job's windows and settings are
 pub record IsDone (net : Network) (job : Job) (given : List (List ℤ)) (next : ℕ) : Type 0 where
   pub outputs : let n = node_at net job.block in
-      (ts : List model.Held) (xs : List (List ℤ)) → IsFed n.meaning ts xs (n.multiple * job.first) (n.multiple * job.count) job.word job.windows job.held →
+      (ts : List model.Held) (xs : List (List ℤ)) → IsFed n.meaning ts xs (n.multiple * job.first)
+      (n.multiple * job.count) job.word job.windows job.held →
       given ≡ given_outputs n.meaning ts xs (n.multiple * job.first) (n.multiple * job.count) job.outputs
   pub word : let n = node_at net job.block in
-      (ts : List model.Held) (xs : List (List ℤ)) → IsFed n.meaning ts xs (n.multiple * job.first) (n.multiple * job.count) job.word job.windows job.held →
+      (ts : List model.Held) (xs : List (List ℤ)) → IsFed n.meaning ts xs (n.multiple * job.first)
+      (n.multiple * job.count) job.word job.windows job.held →
       next ≡ n.meaning.word ts xs (n.multiple * job.first + n.multiple * job.count)
 
 -- a job that was done: what it was given, and what it made

@@ -44,7 +44,8 @@ impl<B: Block> Model for Job<B> {
     ghost view = { λ j. record { graph = arc_value j.claimed.graph; job = job_in j.claimed } };
 
     ghost invariant = { λ j. let own = j.claimed in let net = net_of B.meaning (arc_value own.graph) in
-        (own.block.0 < length (arc_value own.graph).blocks) × (length own.lent.outputs.items ≡ used_outputs net own.block.0)
+        (own.block.0 < length (arc_value own.graph).blocks) × (length own.lent.outputs.items
+        ≡ used_outputs net own.block.0)
         × CanDo net (job_in own) own.lent.windows.items own.lent.held.items own.lent.outputs.items };
 }
 
@@ -52,8 +53,10 @@ impl<B: Block> Job<B> {
     /// The job of these firings, which their block has to be able to do.
     pub fn new(claimed: Claimed<B>) -> Job<B>
         requires block { claimed.block.0 < length (arc_value claimed.graph).blocks }
-        requires outputs { length claimed.lent.outputs.items ≡ used_outputs (net_of B.meaning (arc_value claimed.graph)) claimed.block.0 }
-        requires can { CanDo (net_of B.meaning (arc_value claimed.graph)) (job_in claimed) claimed.lent.windows.items claimed.lent.held.items claimed.lent.outputs.items }
+        requires outputs { length claimed.lent.outputs.items ≡ used_outputs (net_of B.meaning (arc_value claimed.graph))
+            claimed.block.0 }
+        requires can { CanDo (net_of B.meaning (arc_value claimed.graph)) (job_in claimed) claimed.lent.windows.items
+            claimed.lent.held.items claimed.lent.outputs.items }
         ensures graph { result.graph ≡ arc_value claimed.graph }
         ensures job { result.job ≡ job_in claimed }
     {

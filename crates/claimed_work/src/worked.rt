@@ -45,7 +45,8 @@ impl<B: Block> Model for Worked<B> {
     } };
 
     ghost invariant = { λ w. let own = w.claimed in let net = net_of B.meaning (arc_value own.graph) in
-        (own.block.0 < length (arc_value own.graph).blocks) × (length own.lent.outputs.items ≡ used_outputs net own.block.0)
+        (own.block.0 < length (arc_value own.graph).blocks) × (length own.lent.outputs.items
+        ≡ used_outputs net own.block.0)
         × IsWorked net (job_in own) own.lent.windows.items own.lent.outputs.items w.next };
 }
 
@@ -74,8 +75,8 @@ impl<B: Block> Worked<B> {
         self.next
     }
 
-    /// What it was given is what its block can be given, and what it made is what the firings give. The call is there for what its contract
-    /// says.
+    /// What it was given is what its block can be given, and what it made is what the firings give. The call is there
+    /// for what its contract says.
     pub fn recall(&self)
         ensures outputs { self.now.job.outputs ≡ used_outputs (net_of B.meaning self.now.graph) self.now.job.block }
         ensures fed { WasFed (net_of B.meaning self.now.graph) self.now.job }

@@ -6,7 +6,8 @@ use Rattle.stream_model.specs.Machine.{close_of}
 use Rattle.flowgraph.specs.Flowgraph.{net_of}
 use Rattle.plant.specs.Plant.{PlantState}
 
--- the tapes of the sources below n are closed, one after the other, and those of all sources. Closing what is no source, or is closed, changes nothing
+-- the tapes of the sources below n are closed, one after the other, and those of all sources. Closing what is no
+-- source, or is closed, changes nothing
 abbrev pub closed_below : Network → State → ℕ → State
 closed_below net st zero = st
 closed_below net st (suc n) = (close_of net (closed_below net st n) n).1

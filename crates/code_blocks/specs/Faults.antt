@@ -16,9 +16,11 @@ abbrev pub IsFirstBad : ℕ → Checksum → Parameter → Type 0
 IsFirstBad n c parameters.Bits = ¬ HasBits c
 IsFirstBad n c parameters.Polynomial = HasBits c × (2 ^ c.bits ≤ c.polynomial)
 IsFirstBad n c parameters.Init = HasBits c × (c.polynomial < 2 ^ c.bits) × (2 ^ c.bits ≤ c.init)
-IsFirstBad n c parameters.FinalXor = HasBits c × (c.polynomial < 2 ^ c.bits) × (c.init < 2 ^ c.bits) × (2 ^ c.bits ≤ c.final_xor)
+IsFirstBad n c parameters.FinalXor = HasBits c × (c.polynomial < 2 ^ c.bits) × (c.init < 2 ^ c.bits)
+    × (2 ^ c.bits ≤ c.final_xor)
 IsFirstBad n c parameters.N =
-    HasBits c × (c.polynomial < 2 ^ c.bits) × (c.init < 2 ^ c.bits) × (c.final_xor < 2 ^ c.bits) × (¬ ((1 ≤ n) × (n ≤ 1020)))
+    HasBits c × (c.polynomial < 2 ^ c.bits) × (c.init < 2 ^ c.bits) × (c.final_xor < 2 ^ c.bits)
+    × (¬ ((1 ≤ n) × (n ≤ 1020)))
 IsFirstBad n c _ = ⊥
 
 -- why no checksum was made: the first bad parameter, or out of memory where none is bad

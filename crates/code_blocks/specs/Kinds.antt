@@ -45,7 +45,8 @@ pub state_machine_of-lawful : (b : StateMachine) → IsLawful (state_machine_of 
 state_machine_of-lawful b = state_machine-lawful b.symbols b.next.items (map pos b.output.items) b.start b.is
 
 pub state_machine_of-same :
-    (a b : StateMachine) → (nat_eq a.symbols b.symbols && (pointwise nat_eq a.next.items b.next.items && (pointwise nat_eq a.output.items b.output.items && nat_eq a.start b.start))) ≡ true →
+    (a b : StateMachine) → (nat_eq a.symbols b.symbols && (pointwise nat_eq a.next.items b.next.items &&
+    (pointwise nat_eq a.output.items b.output.items && nat_eq a.start b.start))) ≡ true →
     state_machine_of a ≡ state_machine_of b
 state_machine_of-same a b e =
     let outputs = pointwise nat_eq a.output.items b.output.items in
@@ -54,8 +55,10 @@ state_machine_of-same a b e =
     let from_next = second_so (nat_eq a.symbols b.symbols) behind_symbols e in
     let from_output = second_so (pointwise nat_eq a.next.items b.next.items) behind_next from_next in
     let symbols_same = same_number a.symbols b.symbols (first_so (nat_eq a.symbols b.symbols) behind_symbols e) in
-    let next_same = same_text a.next.items b.next.items (sym (first_so (pointwise nat_eq a.next.items b.next.items) behind_next from_next)) in
-    let output_same = same_text a.output.items b.output.items (sym (first_so outputs (nat_eq a.start b.start) from_output)) in
+    let next_same = same_text a.next.items b.next.items (sym (first_so (pointwise nat_eq a.next.items b.next.items)
+    behind_next from_next)) in
+    let output_same = same_text a.output.items b.output.items (sym (first_so outputs (nat_eq a.start b.start)
+    from_output)) in
     let start_same = same_number a.start b.start (second_so outputs (nat_eq a.start b.start) from_output) in
     λ i. state_machine (symbols_same i) (next_same i) (map pos (output_same i)) (start_same i)
 
@@ -65,7 +68,8 @@ viterbi_of b = viterbi b.item (trellis_of b.decoder)
 pub viterbi_of-lawful : (b : Viterbi) → IsLawful (viterbi_of b)
 viterbi_of-lawful b = viterbi-lawful b.item (trellis_of b.decoder) b.decoder.is
 
-pub viterbi_of-same : (a b : Viterbi) → (sameb the_type a.item b.item && decoders_agree a.decoder b.decoder) ≡ true → viterbi_of a ≡ viterbi_of b
+pub viterbi_of-same : (a b : Viterbi) → (sameb the_type a.item b.item && decoders_agree a.decoder b.decoder) ≡ true
+    → viterbi_of a ≡ viterbi_of b
 viterbi_of-same a b e =
     let items = sameb the_type a.item b.item in
     let decoders = decoders_agree a.decoder b.decoder in

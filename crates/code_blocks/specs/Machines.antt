@@ -35,8 +35,10 @@ pub record AreTables (symbols : ℕ) (next output : List ℤ) (start : ℕ) : Ty
 abbrev pub IsBadTable : ℕ → List ℤ → List ℤ → ℕ → Parameter → Type 0
 IsBadTable symbols next output start parameters.Symbols = ¬ AreSymbols symbols
 IsBadTable symbols next output start parameters.Next = AreSymbols symbols × (¬ AreStates symbols next)
-IsBadTable symbols next output start parameters.Output = AreSymbols symbols × AreStates symbols next × (¬ AreOutputs next output)
-IsBadTable symbols next output start parameters.Init = AreSymbols symbols × AreStates symbols next × AreOutputs next output × (length next / symbols ≤ start)
+IsBadTable symbols next output start parameters.Output = AreSymbols symbols × AreStates symbols next
+    × (¬ AreOutputs next output)
+IsBadTable symbols next output start parameters.Init = AreSymbols symbols × AreStates symbols next
+    × AreOutputs next output × (length next / symbols ≤ start)
 IsBadTable symbols next output start _ = ⊥
 
 -- why no machine was made: the first bad parameter, or out of memory where none is bad
@@ -46,4 +48,5 @@ IsTableRefusal symbols next output start Memory = AreTables symbols next output 
 
 -- what a machine gives for the first items of a list, from a state on
 abbrev pub given_from : ℕ → List ℕ → List ℤ → ℕ → List ℤ → ℕ → List ℤ
-given_from symbols next output start x count = listed count (λ n. item output (row_of symbols (state_after symbols next start x n) (item x n)))
+given_from symbols next output start x count = listed count (λ n. item output
+    (row_of symbols (state_after symbols next start x n) (item x n)))

@@ -15,13 +15,16 @@ use Rattle.code_blocks.specs.declared.division.Division.{Division}
 -- the tests that are derived
 abbrev pub rules_agree : Checksum → Checksum → Bool
 rules_agree c d =
-    nat_eq c.bits d.bits && (nat_eq c.polynomial d.polynomial && (nat_eq c.init d.init && (nat_eq c.final_xor d.final_xor && sameb order.the_type c.order d.order)))
+    nat_eq c.bits d.bits && (nat_eq c.polynomial d.polynomial && (nat_eq c.init d.init &&
+    (nat_eq c.final_xor d.final_xor && sameb order.the_type c.order d.order)))
 
 abbrev pub divisions_agree : Division → Division → Bool
-divisions_agree c d = nat_eq c.bits d.bits && (nat_eq c.polynomial d.polynomial && pointwise nat_eq c.table.items d.table.items)
+divisions_agree c d = nat_eq c.bits d.bits && (nat_eq c.polynomial d.polynomial && pointwise nat_eq c.table.items
+    d.table.items)
 
 abbrev pub CrcsAgree : Crc → Crc → Type 0
-CrcsAgree a b = (nat_eq a.length b.length && (rules_agree a.rule b.rule && divisions_agree a.division b.division)) ≡ true
+CrcsAgree a b = (nat_eq a.length b.length && (rules_agree a.rule b.rule && divisions_agree a.division b.division))
+    ≡ true
 
 -- orders that the derived test finds equal are one
 same_order : (a b : BitOrder) → sameb order.the_type a b ≡ true → a ≡ b
@@ -41,16 +44,26 @@ same_rule c d e =
     let from_init = second_so (nat_eq c.polynomial d.polynomial) behind_polynomial from_polynomial in
     let from_final = second_so (nat_eq c.init d.init) behind_init from_init in
     let bits_same = same_number c.bits d.bits (first_so (nat_eq c.bits d.bits) behind_bits e) in
-    let polynomial_same = same_number c.polynomial d.polynomial (first_so (nat_eq c.polynomial d.polynomial) behind_polynomial from_polynomial) in
+    let polynomial_same = same_number c.polynomial d.polynomial (first_so (nat_eq c.polynomial d.polynomial)
+    behind_polynomial from_polynomial) in
     let init_same = same_number c.init d.init (first_so (nat_eq c.init d.init) behind_init from_init) in
-    let final_same = same_number c.final_xor d.final_xor (first_so (nat_eq c.final_xor d.final_xor) orders from_final) in
+    let final_same = same_number c.final_xor d.final_xor (first_so (nat_eq c.final_xor d.final_xor) orders from_final)
+    in
     let order_same = same_order c.order d.order (second_so (nat_eq c.final_xor d.final_xor) orders from_final) in
-    λ i. record { bits = bits_same i; polynomial = polynomial_same i; init = init_same i; final_xor = final_same i; order = order_same i }
+    λ i. record {
+      bits = bits_same i;
+      polynomial = polynomial_same i;
+      init = init_same i;
+      final_xor = final_same i;
+      order = order_same i;
+    }
 
-pub same_crc : (meant : ℕ → Checksum → Meaning) (a b : Crc) → CrcsAgree a b → meant a.length a.rule ≡ meant b.length b.rule
+pub same_crc : (meant : ℕ → Checksum → Meaning) (a b : Crc) → CrcsAgree a b → meant a.length a.rule
+    ≡ meant b.length b.rule
 same_crc meant a b e =
     let divisions = divisions_agree a.division b.division in
     let rules = rules_agree a.rule b.rule in
     let length_same = same_number a.length b.length (first_so (nat_eq a.length b.length) (rules && divisions) e) in
-    let rule_same = same_rule a.rule b.rule (first_so rules divisions (second_so (nat_eq a.length b.length) (rules && divisions) e)) in
+    let rule_same = same_rule a.rule b.rule (first_so rules divisions
+    (second_so (nat_eq a.length b.length) (rules && divisions) e)) in
     λ i. meant (length_same i) (rule_same i)

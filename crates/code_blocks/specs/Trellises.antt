@@ -12,7 +12,8 @@ use Rattle.code_blocks.specs.declared.viterbi.Trellis.{Trellis}
 
 -- the trellis of these tables
 abbrev pub trellis_in : Trellis → model.Trellis
-trellis_in t = trellis t.symbols (map unsigned_abs t.next.now) (map unsigned_abs t.output.now) t.outputs t.steps t.start t.end
+trellis_in t = trellis t.symbols (map unsigned_abs t.next.now) (map unsigned_abs t.output.now) t.outputs t.steps t.start
+    t.end
 
 -- how many symbols there may be, each a byte
 abbrev pub AreFewSymbols : ℕ → Type 0
@@ -54,18 +55,24 @@ pub record AreTrellisTables (t : Trellis) : Type 0 where
 abbrev pub IsBadTrellis : Trellis → Parameter → Type 0
 IsBadTrellis t parameters.Symbols = ¬ AreFewSymbols t.symbols
 IsBadTrellis t parameters.Next = AreFewSymbols t.symbols × (¬ AreFewStates t.symbols t.next.now)
-IsBadTrellis t parameters.Outputs = AreFewSymbols t.symbols × AreFewStates t.symbols t.next.now × (¬ AreFewOutputs t.outputs)
+IsBadTrellis t parameters.Outputs = AreFewSymbols t.symbols × AreFewStates t.symbols t.next.now
+    × (¬ AreFewOutputs t.outputs)
 IsBadTrellis t parameters.Output =
-    AreFewSymbols t.symbols × AreFewStates t.symbols t.next.now × AreFewOutputs t.outputs × (¬ AreNumbersBelow t.outputs (length t.next.now) t.output.now)
+    AreFewSymbols t.symbols × AreFewStates t.symbols t.next.now × AreFewOutputs t.outputs
+    × (¬ AreNumbersBelow t.outputs (length t.next.now) t.output.now)
 IsBadTrellis t parameters.Steps =
-    AreFewSymbols t.symbols × AreFewStates t.symbols t.next.now × AreFewOutputs t.outputs × AreNumbersBelow t.outputs (length t.next.now) t.output.now
+    AreFewSymbols t.symbols × AreFewStates t.symbols t.next.now × AreFewOutputs t.outputs
+    × AreNumbersBelow t.outputs (length t.next.now) t.output.now
     × (¬ AreSteps t.steps t.outputs (length t.next.now / t.symbols))
 IsBadTrellis t parameters.Start =
-    AreFewSymbols t.symbols × AreFewStates t.symbols t.next.now × AreFewOutputs t.outputs × AreNumbersBelow t.outputs (length t.next.now) t.output.now
+    AreFewSymbols t.symbols × AreFewStates t.symbols t.next.now × AreFewOutputs t.outputs
+    × AreNumbersBelow t.outputs (length t.next.now) t.output.now
     × AreSteps t.steps t.outputs (length t.next.now / t.symbols) × (¬ IsState t.start (length t.next.now / t.symbols))
 IsBadTrellis t parameters.End =
-    AreFewSymbols t.symbols × AreFewStates t.symbols t.next.now × AreFewOutputs t.outputs × AreNumbersBelow t.outputs (length t.next.now) t.output.now
-    × AreSteps t.steps t.outputs (length t.next.now / t.symbols) × IsState t.start (length t.next.now / t.symbols) × (¬ IsState t.end (length t.next.now / t.symbols))
+    AreFewSymbols t.symbols × AreFewStates t.symbols t.next.now × AreFewOutputs t.outputs
+    × AreNumbersBelow t.outputs (length t.next.now) t.output.now
+    × AreSteps t.steps t.outputs (length t.next.now / t.symbols) × IsState t.start (length t.next.now / t.symbols)
+    × (¬ IsState t.end (length t.next.now / t.symbols))
 IsBadTrellis t _ = ⊥
 
 -- why no block was made: the first bad parameter, or out of memory where none is bad

@@ -82,9 +82,9 @@ fn number_in(order: BitOrder, bits: u32, register: u64) -> u64
 }
 
 impl Crc {
-    /// Frames of 1 to 1,020 bytes with a checksum of 8 to 32 bits, and no more in the polynomial, `init` and `final_xor`.
-    /// `BadParameter` names the first that is not so: `bits`, `polynomial`, `init`, `final_xor`, `n`. `Memory` comes only where the allocator refuses
-    /// a table of 256 words.
+    /// Frames of 1 to 1,020 bytes with a checksum of 8 to 32 bits, and no more in the polynomial, `init` and
+    /// `final_xor`. `BadParameter` names the first that is not so: `bits`, `polynomial`, `init`, `final_xor`, `n`.
+    /// `Memory` comes only where the allocator refuses a table of 256 words.
     pub fn new(alloc: Global, length: u64, rule: Checksum) -> Result<Crc, ParamFault>
         ensures length { IfOk result (λ crc. crc.length ≡ length) }
         ensures rule { IfOk result (λ crc. crc.rule ≡ rule) }
@@ -146,7 +146,8 @@ impl Crc {
         requires taken { length frame.now ≡ self.now.length }
         requires given { at + self.now.length + bytes_of self.now.rule ≤ length out.old }
         ensures len { length out.new ≡ length out.old }
-        ensures stays { (i : ℕ) → (i < at) ⊎ (at + self.now.length + bytes_of self.now.rule ≤ i) → item (map pos out.new) i ≡ item (map pos out.old) i }
+        ensures stays { (i : ℕ) → (i < at) ⊎ (at + self.now.length + bytes_of self.now.rule ≤ i)
+            → item (map pos out.new) i ≡ item (map pos out.old) i }
         ensures written { (r : ℕ) → r < self.now.length + bytes_of self.now.rule
             → item (map pos out.new) (at + r) ≡ with_checksum self.now.rule self.now.length (map pos frame.now) 0 r }
     {
@@ -165,7 +166,8 @@ impl Crc {
     fn has_byte(&self, frame: &[u8], sum: u64, j: usize) -> bool
         requires frame { length frame.now ≡ self.now.length + bytes_of self.now.rule }
         requires byte { j < bytes_of self.now.rule }
-        ensures { result ≡ int_eq (item (map pos frame.now) (0 + self.now.length + j)) (checksum_byte self.now.rule sum j) }
+        ensures { result ≡ int_eq (item (map pos frame.now) (0 + self.now.length + j))
+            (checksum_byte self.now.rule sum j) }
     {
         frame[self.length as usize + j] == self.byte(sum, j as u64)
     }

@@ -12,8 +12,8 @@ use items::{ItemType, Items};
 use kind_model::Checksum;
 use std::alloc::Global;
 
-/// Each frame of so many bytes, and then its checksum: the highest byte first where bits come highest first, else the lowest. As GNU Radio's
-/// `crc_append` of messages and `crc32_bb` of tagged streams, whose frames may have any lengths.
+/// Each frame of so many bytes, and then its checksum: the highest byte first where bits come highest first, else the
+/// lowest. As GNU Radio's `crc_append` of messages and `crc32_bb` of tagged streams, whose frames may have any lengths.
 #[derive(Debug, Drop, PartialEq, Eq)]
 pub struct CrcAppend {
     crc: Crc,
@@ -22,8 +22,8 @@ pub struct CrcAppend {
 impl CrcAppend {
     ghost use Rattle.code_blocks.specs.Kinds.{crc_append_of};
 
-    /// The block for frames of 1 to 1,020 bytes. `BadParameter` names the first parameter that is outside its range, as [`Crc::new`] has it; `Memory` comes
-    /// only where the allocator refuses a table of 256 words.
+    /// The block for frames of 1 to 1,020 bytes. `BadParameter` names the first parameter that is outside its range, as
+    /// [`Crc::new`] has it; `Memory` comes only where the allocator refuses a table of 256 words.
     pub fn new(alloc: Global, length: u64, rule: Checksum) -> Result<CrcAppend, ParamFault>
         ensures meaning { IfOk result (λ block. crc_append_of block ≡ crc_append length rule) }
         ensures range { OnOk result (IsChecksum rule length) }
@@ -46,7 +46,8 @@ impl<'a> ByteWork for Frames<'a> {
     ghost can_make = { λ b xs count. (length xs ≡ b.crc.now.length * b.count) × (count ≡ (b.crc.now.length + bytes_of b.crc.now.rule) * b.count) };
 
     ghost makes = { λ b xs count. listed count (λ k. with_checksum b.crc.now.rule b.crc.now.length xs
-        (k / (b.crc.now.length + bytes_of b.crc.now.rule) * b.crc.now.length) (k % (b.crc.now.length + bytes_of b.crc.now.rule))) };
+        (k / (b.crc.now.length + bytes_of b.crc.now.rule) * b.crc.now.length)
+        (k % (b.crc.now.length + bytes_of b.crc.now.rule))) };
 
     fn make(&self, items: &[u8], out: &mut [u8]) {
         let n = self.crc.length() as usize;

@@ -12,8 +12,9 @@ use items::{ItemType, Items};
 use kind_model::Checksum;
 use std::alloc::Global;
 
-/// 1 for each frame of so many bytes with its checksum behind it, and 0 for each with other bytes there. GNU Radio's `crc_check` of messages and
-/// `crc32_bb` of tagged streams drop such a frame, and give the others without their checksums: `keep_m_in_n` gives all frames so.
+/// 1 for each frame of so many bytes with its checksum behind it, and 0 for each with other bytes there. GNU Radio's
+/// `crc_check` of messages and `crc32_bb` of tagged streams drop such a frame, and give the others without their
+/// checksums: `keep_m_in_n` gives all frames so.
 #[derive(Debug, Drop, PartialEq, Eq)]
 pub struct CrcCheck {
     crc: Crc,
@@ -22,8 +23,9 @@ pub struct CrcCheck {
 impl CrcCheck {
     ghost use Rattle.code_blocks.specs.Kinds.{crc_check_of};
 
-    /// The block for frames of 1 to 1,020 bytes, behind which the bytes of a checksum come. `BadParameter` names the first parameter that is outside its
-    /// range, as [`Crc::new`] has it; `Memory` comes only where the allocator refuses a table of 256 words.
+    /// The block for frames of 1 to 1,020 bytes, behind which the bytes of a checksum come. `BadParameter` names the
+    /// first parameter that is outside its range, as [`Crc::new`] has it; `Memory` comes only where the allocator
+    /// refuses a table of 256 words.
     pub fn new(alloc: Global, length: u64, rule: Checksum) -> Result<CrcCheck, ParamFault>
         ensures meaning { IfOk result (λ block. crc_check_of block ≡ crc_check length rule) }
         ensures range { OnOk result (IsChecksum rule length) }

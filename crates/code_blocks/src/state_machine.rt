@@ -11,8 +11,9 @@ use items::{ItemType, Items};
 use numbers::vectors::narrowed;
 use std::alloc::{AllocError, Global};
 
-/// A machine that goes from state to state: for each byte it gives what a table has for its state and the byte, and goes on to the state that another has
-/// for them. Bytes count modulo `symbols`. Convolutional codes are such machines. As GNU Radio's `trellis.encoder_bb` by the tables of an `fsm`.
+/// A machine that goes from state to state: for each byte it gives what a table has for its state and the byte, and
+/// goes on to the state that another has for them. Bytes count modulo `symbols`. Convolutional codes are such machines.
+/// As GNU Radio's `trellis.encoder_bb` by the tables of an `fsm`.
 #[derive(Debug, Drop, PartialEq, Eq)]
 pub struct StateMachine {
     symbols: u32,
@@ -76,9 +77,11 @@ pub(crate) fn narrow_states(alloc: Global, states: &[i64]) -> Result<Vec<u16>, A
 impl StateMachine {
     ghost use Rattle.code_blocks.specs.Kinds.{state_machine_of};
 
-    /// The machine that begins in the state `start`, with copies of its tables: what belongs to state `s` and symbol `x` stands at `s * symbols + x` of both.
-    /// `BadParameter` names the first parameter that is outside its range, before any memory is asked for: `symbols` from 1 to 4,096; `next`, 1 to 4,096
-    /// states, a row of `symbols` for each state; `output`, a byte for each of them; `init`, a state. `Memory` only where the allocator refuses a copy.
+    /// The machine that begins in the state `start`, with copies of its tables: what belongs to state `s` and symbol
+    /// `x` stands at `s * symbols + x` of both. `BadParameter` names the first parameter that is outside its range,
+    /// before any memory is asked for: `symbols` from 1 to 4,096; `next`, 1 to 4,096 states, a row of `symbols` for
+    /// each state; `output`, a byte for each of them; `init`, a state. `Memory` only where the allocator refuses a
+    /// copy.
     pub fn new(
         alloc: Global,
         symbols: u32,
@@ -86,7 +89,8 @@ impl StateMachine {
         output: &[i64],
         start: u32,
     ) -> Result<StateMachine, ParamFault>
-        ensures meaning { IfOk result (λ block. state_machine_of block ≡ state_machine symbols (map unsigned_abs next.now) output.now start) }
+        ensures meaning { IfOk result (λ block. state_machine_of block
+            ≡ state_machine symbols (map unsigned_abs next.now) output.now start) }
         ensures range { OnOk result (AreTables symbols next.now output.now start) }
         ensures fault { IfErr result (IsTableRefusal symbols next.now output.now start) }
     {
@@ -101,13 +105,16 @@ impl StateMachine {
         })
     }
 
-    // Appends what the machine gives for the bytes, from a state on, to an empty `out` with room for it, and answers the state behind them.
+    // Appends what the machine gives for the bytes, from a state on, to an empty `out` with room for it, and answers
+    // the state behind them.
     fn run_bytes(&self, start: u64, items: &[u8], out: &mut Vec<u8>) -> u64
         requires state { start < length self.now.next.items / self.now.symbols }
         requires empty { map pos out.old.items ≡ [] }
         requires room { length items.now ≤ vec_capacity out.old - vec_len out.old }
-        ensures items { map pos out.new.items ≡ given_from self.now.symbols self.now.next.items (map pos self.now.output.items) start (map pos items.now) (length items.now) }
-        ensures word { result ≡ state_after self.now.symbols self.now.next.items start (map pos items.now) (length items.now) }
+        ensures items { map pos out.new.items ≡ given_from self.now.symbols self.now.next.items
+            (map pos self.now.output.items) start (map pos items.now) (length items.now) }
+        ensures word { result ≡ state_after self.now.symbols self.now.next.items start (map pos items.now)
+            (length items.now) }
         ensures len { vec_len out.new ≡ length items.now }
         ensures capacity { vec_capacity out.new ≡ vec_capacity out.old }
     {
@@ -121,7 +128,8 @@ impl StateMachine {
         state
     }
 
-    // Writes what the machine gives for the items, from a state on, into an empty `out` with room for it, and answers the state behind them.
+    // Writes what the machine gives for the items, from a state on, into an empty `out` with room for it, and answers
+    // the state behind them.
     fn run(&self, start: u64, items: &Items, out: &mut Items) -> u64
         requires state { start < length self.now.next.items / self.now.symbols }
         requires from { type_of items.now ≡ Byte }
@@ -129,8 +137,10 @@ impl StateMachine {
         requires empty { numbers_of out.old ≡ [] }
         requires room { length (numbers_of items.now) ≤ spare_of out.old }
         ensures item_type { type_of out.new ≡ Byte }
-        ensures numbers { numbers_of out.new ≡ given_from self.now.symbols self.now.next.items (map pos self.now.output.items) start (numbers_of items.now) (length (numbers_of items.now)) }
-        ensures word { result ≡ state_after self.now.symbols self.now.next.items start (numbers_of items.now) (length (numbers_of items.now)) }
+        ensures numbers { numbers_of out.new ≡ given_from self.now.symbols self.now.next.items
+            (map pos self.now.output.items) start (numbers_of items.now) (length (numbers_of items.now)) }
+        ensures word { result ≡ state_after self.now.symbols self.now.next.items start (numbers_of items.now)
+            (length (numbers_of items.now)) }
         ensures room { spare_of out.old ≤ spare_of out.new + length (numbers_of out.new) }
     {
         match (items, out) {

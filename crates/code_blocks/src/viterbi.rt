@@ -35,8 +35,8 @@ pub struct Trellis<'a> {
     pub end: Option<u32>,
 }
 
-/// Of each block of metrics, one for each output at each step, the symbols of the path through a machine whose metrics have the least sum. As GNU Radio's
-/// `trellis.viterbi_b` of whole metrics.
+/// Of each block of metrics, one for each output at each step, the symbols of the path through a machine whose metrics
+/// have the least sum. As GNU Radio's `trellis.viterbi_b` of whole metrics.
 #[derive(Debug, Drop, PartialEq, Eq)]
 pub struct Viterbi {
     item: ItemType,
@@ -115,10 +115,11 @@ fn first_bad(t: &Trellis<'_>) -> Option<Parameter>
 impl Viterbi {
     ghost use Rattle.code_blocks.specs.Kinds.{viterbi_of};
 
-    /// The block for metrics of a type, with copies of the tables. `BadParameter` names the first parameter that is outside its range, before any memory is
-    /// asked for: `symbols` from 1 to 256; `next`, 1 to 4,096 states, a row of `symbols` for each of at most 1,024; `outputs` from 1 to 1,024; `output`, one of
-    /// the outputs for each next state; `steps` from 1, so that a block has at most 1,024 metrics and 16,384 choices of a state at a step; `start` and `end`,
-    /// a state or none. `Memory` only where the allocator refuses a copy.
+    /// The block for metrics of a type, with copies of the tables. `BadParameter` names the first parameter that is
+    /// outside its range, before any memory is asked for: `symbols` from 1 to 256; `next`, 1 to 4,096 states, a row of
+    /// `symbols` for each of at most 1,024; `outputs` from 1 to 1,024; `output`, one of the outputs for each next
+    /// state; `steps` from 1, so that a block has at most 1,024 metrics and 16,384 choices of a state at a step;
+    /// `start` and `end`, a state or none. `Memory` only where the allocator refuses a copy.
     pub fn new(alloc: Global, item: ItemType, trellis: &Trellis<'_>) -> Result<Viterbi, ParamFault>
         ensures meaning { IfOk result (λ block. viterbi_of block ≡ viterbi item (trellis_in trellis.now)) }
         ensures range { OnOk result (AreTrellisTables trellis.now) }
@@ -146,7 +147,8 @@ impl Viterbi {
 fn write_symbols<T: Number>(decoder: &Decoder, count: usize, items: &[T], out: &mut [u8])
     requires items { length items.now ≡ decoder.now.steps * decoder.now.outputs * count }
     requires out { length out.old ≡ decoder.now.steps * count }
-    ensures { map pos out.new ≡ listed (decoder.now.steps * count) (λ k. pos (decoded (trellis_of decoder.now) (map T.number items.now)
+    ensures { map pos out.new ≡ listed (decoder.now.steps * count) (λ k. pos
+        (decoded (trellis_of decoder.now) (map T.number items.now)
         (k / decoder.now.steps * (decoder.now.steps * decoder.now.outputs)) (k % decoder.now.steps))) }
 {
     let taken = decoder.metrics() as usize;
@@ -163,7 +165,8 @@ fn append_symbols<T: Number>(decoder: &Decoder, count: usize, items: &[T], out: 
     requires items { length items.now ≡ decoder.now.steps * decoder.now.outputs * count }
     requires empty { map pos out.old.items ≡ [] }
     requires room { decoder.now.steps * count ≤ vec_capacity out.old - vec_len out.old }
-    ensures items { map pos out.new.items ≡ listed (decoder.now.steps * count) (λ k. pos (decoded (trellis_of decoder.now) (map T.number items.now)
+    ensures items { map pos out.new.items ≡ listed (decoder.now.steps * count)
+        (λ k. pos (decoded (trellis_of decoder.now) (map T.number items.now)
         (k / decoder.now.steps * (decoder.now.steps * decoder.now.outputs)) (k % decoder.now.steps))) }
     ensures capacity { vec_capacity out.old ≤ vec_capacity out.new }
 {
@@ -178,7 +181,8 @@ fn give_symbols(decoder: &Decoder, count: usize, items: &Items, out: &mut Items)
     requires empty { numbers_of out.old ≡ [] }
     requires room { decoder.now.steps * count ≤ spare_of out.old }
     ensures item_type { type_of out.new ≡ type_of out.old }
-    ensures numbers { numbers_of out.new ≡ listed (decoder.now.steps * count) (λ k. pos (decoded (trellis_of decoder.now) (numbers_of items.now)
+    ensures numbers { numbers_of out.new ≡ listed (decoder.now.steps * count)
+        (λ k. pos (decoded (trellis_of decoder.now) (numbers_of items.now)
         (k / decoder.now.steps * (decoder.now.steps * decoder.now.outputs)) (k % decoder.now.steps))) }
     ensures room { spare_of out.old ≤ spare_of out.new + length (numbers_of out.new) }
 {

@@ -1,5 +1,5 @@
--- Blocks and connections as Graphviz's `dot` reads them. Names of blocks have letters, digits, `_`, `.` and `-` alone, none of which
--- means anything in a quoted name or in a record.
+-- Blocks and connections as Graphviz's `dot` reads them. Names of blocks have letters, digits, `_`, `.` and `-` alone,
+-- none of which means anything in a quoted name or in a record.
 use Rattle.std.specs.Prelude.{ℕ, List, [], ◌∷◌, ◌++◌, ◌==◌, codes, if◌then◌else◌}
 use Rattle.std.specs.List.{flat_map}
 use Rattle.std.specs.Fmt.{decimal}
@@ -8,7 +8,8 @@ use Rattle.drawings.specs.Parts.{Box, Arrow}
 use Rattle.drawings.specs.Pieces.{joined}
 use Rattle.drawings.specs.Words.{lines_text, type_text, colour}
 
--- a port as a field with a name, i0 or o0, and its number. The first opens the column of its side, and the others are parted from the one before
+-- a port as a field with a name, i0 or o0, and its number. The first opens the column of its side, and the others are
+-- parted from the one before
 abbrev pub port_text : List ℕ → ℕ → List ℕ
 port_text side p = joined ((if p == 0 then codes "{<" else codes "|<") ∷ side ∷ decimal p ∷ codes "> " ∷ decimal p ∷ [])
 
@@ -36,5 +37,7 @@ block_text b = joined (codes "  \"" ∷ b.name ∷ codes "\" [label=\"{" ∷ lab
 abbrev pub connection_text : Arrow → List ℕ
 connection_text a =
     joined (
-    codes "  \"" ∷ a.from.name ∷ codes "\":o" ∷ decimal a.from.port ∷ codes ":e -> \"" ∷ a.to.name ∷ codes "\":i" ∷ decimal a.to.port
-    ∷ codes ":w [label=\"" ∷ type_text a.item ∷ codes " " ∷ decimal a.capacity ∷ codes "\", color=\"" ∷ colour a.item ∷ codes "\"];\n" ∷ [])
+    codes "  \"" ∷ a.from.name ∷ codes "\":o" ∷ decimal a.from.port ∷ codes ":e -> \"" ∷ a.to.name ∷ codes
+    "\":i" ∷ decimal a.to.port
+    ∷ codes ":w [label=\"" ∷ type_text a.item ∷ codes " " ∷ decimal a.capacity ∷ codes "\", color=\"" ∷ colour
+    a.item ∷ codes "\"];\n" ∷ [])

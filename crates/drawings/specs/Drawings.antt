@@ -43,7 +43,8 @@ connections_text f g caps = flat_map (λ n. connection_text f n (arrow_at g caps
 
 -- a graph with these rates, and the capacities that these ask for
 abbrev pub text_with : Format → Flowgraph Kind → Balance → List ℕ
-text_with f g rates = opening_text f ++ blocks_text f g rates ++ connections_text f g (capacities_of (net_of meaning_of g) rates) ++ closing_text f
+text_with f g rates = opening_text f ++ blocks_text f g rates ++ connections_text f g
+    (capacities_of (net_of meaning_of g) rates) ++ closing_text f
 
 -- a graph with its own rates
 abbrev pub drawn_text : Format → Flowgraph Kind → List ℕ

@@ -1,4 +1,5 @@
--- Blocks and connections as Mermaid reads them. A block goes by its number, since not every name may stand there, and is labelled with its name.
+-- Blocks and connections as Mermaid reads them. A block goes by its number, since not every name may stand there, and
+-- is labelled with its name.
 use Rattle.std.specs.Prelude.{ℕ, List, [], ◌∷◌, codes}
 use Rattle.std.specs.Fmt.{decimal}
 use Rattle.drawings.specs.Parts.{Box, Arrow}

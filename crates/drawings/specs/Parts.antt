@@ -46,8 +46,8 @@ shift_by (paces.Delay n) = shifts.Delay n
 shift_by (paces.Skip n) = shifts.Skip n
 shift_by _ = shifts.No
 
--- of a block its name, the name of its kind, what is noted of it, how often it fires in an iteration where the rates are balanced, and how many of its inputs
--- and outputs are connected
+-- of a block its name, the name of its kind, what is noted of it, how often it fires in an iteration where the rates
+-- are balanced, and how many of its inputs and outputs are connected
 pub record Box : Type 0 where
   pub name : List ℕ
   pub kind : List ℕ
@@ -71,7 +71,14 @@ pub record Arrow : Type 0 where
 
 -- the box that code has of a block
 abbrev pub box_seen : DrawnBlock → Box
-box_seen b = record { name = b.name.now; kind = b.kind.now; note = b.note; firings = b.firings; inputs = b.inputs; outputs = b.outputs }
+box_seen b = record {
+  name = b.name.now;
+  kind = b.kind.now;
+  note = b.note;
+  firings = b.firings;
+  inputs = b.inputs;
+  outputs = b.outputs;
+}
 
 -- the end that it has of a connection
 abbrev pub end_seen : DrawnEnd → End
@@ -108,7 +115,15 @@ firings_at TooLarge b = None
 abbrev pub box_at : Flowgraph Kind → Balance → ℕ → Box
 box_at g rates b =
     let net = net_of meaning_of g in
-    record { name = name_at g b; kind = kind_at g b; note = note_at g b; firings = firings_at rates b; inputs = length (writers_of net b); outputs = used_outputs net b }
+    record {
+      name = name_at g b;
+      kind = kind_at g b;
+      note = note_at g b;
+      firings = firings_at rates b;
+      inputs = length
+          (writers_of net b);
+      outputs = used_outputs net b;
+    }
 
 -- the end of a connection at a port of block b
 abbrev pub end_at : Flowgraph Kind → ℕ → ℕ → End

@@ -22,7 +22,8 @@ note_text line_end (Count n) = joined (line_end ∷ codes "n " ∷ decimal n ∷
 
 -- the lines in the middle of a block: its name, its kind, what is noted of it, and how often it fires
 abbrev pub lines_text : List ℕ → Box → List ℕ
-lines_text line_end b = joined (b.name ∷ line_end ∷ b.kind ∷ []) ++ note_text line_end b.note ++ firings_text line_end b.firings
+lines_text line_end b = joined (b.name ∷ line_end ∷ b.kind ∷ []) ++ note_text line_end b.note
+    ++ firings_text line_end b.firings
 
 -- the name of a type
 abbrev pub type_text : ItemType → List ℕ

@@ -115,7 +115,8 @@ fn push_connection(
     number: usize,
     connection: &DrawnConnection<'_>,
 ) -> Result<(), AllocError>
-    ensures { OnOk result (text.new.items ≡ text.old.items ++ connection_text format number (arrow_seen connection.now)) }
+    ensures { OnOk result (text.new.items ≡ text.old.items ++ connection_text format number
+        (arrow_seen connection.now)) }
 {
     match format {
         Format::Dot => dot::push_connection(text, connection),

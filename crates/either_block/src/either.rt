@@ -6,8 +6,8 @@ use items::Items;
 
 /// A block of one of two types. It means what the block inside means.
 ///
-/// A graph holds blocks of one type, so a graph with blocks of two has this one: `Either<Own, Kind>` takes blocks of one's own
-/// beside those of any kind, and `Either<A, Either<B, C>>` blocks of three types.
+/// A graph holds blocks of one type, so a graph with blocks of two has this one: `Either<Own, Kind>` takes blocks of
+/// one's own beside those of any kind, and `Either<A, Either<B, C>>` blocks of three types.
 #[derive(Debug, Drop, PartialEq, Eq)]
 pub enum Either<A, B> {
     /// A block of the first type.

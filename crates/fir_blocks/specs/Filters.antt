@@ -17,4 +17,5 @@ pub record IsFilter (m : Meaning) (t : ItemType) (taps : List ℤ) (f : Polyphas
     out = m.out;
   }
   pub each : (ts : List Held) (xs : List (List ℤ)) (a : ℕ) → m.out ts xs 0 a
-      ≡ tapped t (taps_at taps ts (f.taken * (a / f.given))) (a % f.given) f.given f.branch (input xs 0) (f.taken * (a / f.given)) f.shift
+      ≡ tapped t (taps_at taps ts (f.taken * (a / f.given))) (a % f.given) f.given f.branch (input xs 0)
+      (f.taken * (a / f.given)) f.shift

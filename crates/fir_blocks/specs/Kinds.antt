@@ -18,13 +18,18 @@ filter_of meant b = meant b.item b.taps.items b.rate b.shift
 -- filters that the derived test finds equal mean the same
 pub filter-same :
     {R : _} (meant : ItemType → List ℤ → ℕ → ℕ → Meaning) (a b : Filter R) →
-    (sameb the_type a.item b.item && (pointwise int_eq a.taps.items b.taps.items && (nat_eq a.rate b.rate && nat_eq a.shift b.shift))) ≡ true →
+    (sameb the_type a.item b.item && (pointwise int_eq a.taps.items b.taps.items &&
+    (nat_eq a.rate b.rate && nat_eq a.shift b.shift))) ≡ true →
     filter_of meant a ≡ filter_of meant b
 filter-same meant a b e =
-    let rest = second_so (sameb the_type a.item b.item) (pointwise int_eq a.taps.items b.taps.items && (nat_eq a.rate b.rate && nat_eq a.shift b.shift)) e in
-    let numbers = second_so (pointwise int_eq a.taps.items b.taps.items) (nat_eq a.rate b.rate && nat_eq a.shift b.shift) rest in
-    let item_same = same_item a.item b.item (first_so (sameb the_type a.item b.item) (pointwise int_eq a.taps.items b.taps.items && (nat_eq a.rate b.rate && nat_eq a.shift b.shift)) e) in
-    let taps_same = (signed_items a.taps.items b.taps.items).0 (first_so (pointwise int_eq a.taps.items b.taps.items) (nat_eq a.rate b.rate && nat_eq a.shift b.shift) rest) in
+    let rest = second_so (sameb the_type a.item b.item) (pointwise int_eq a.taps.items b.taps.items &&
+    (nat_eq a.rate b.rate && nat_eq a.shift b.shift)) e in
+    let numbers = second_so (pointwise int_eq a.taps.items b.taps.items)
+    (nat_eq a.rate b.rate && nat_eq a.shift b.shift) rest in
+    let item_same = same_item a.item b.item (first_so (sameb the_type a.item b.item)
+    (pointwise int_eq a.taps.items b.taps.items && (nat_eq a.rate b.rate && nat_eq a.shift b.shift)) e) in
+    let taps_same = (signed_items a.taps.items b.taps.items).0 (first_so (pointwise int_eq a.taps.items b.taps.items)
+    (nat_eq a.rate b.rate && nat_eq a.shift b.shift) rest) in
     let rate_same = same_number a.rate b.rate (first_so (nat_eq a.rate b.rate) (nat_eq a.shift b.shift) numbers) in
     let shift_same = same_number a.shift b.shift (second_so (nat_eq a.rate b.rate) (nat_eq a.shift b.shift) numbers) in
     λ i. meant (item_same i) (taps_same i) (rate_same i) (shift_same i)

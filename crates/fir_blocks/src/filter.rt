@@ -13,9 +13,9 @@ use numbers::vectors::narrowed;
 use std::alloc::Global;
 use std::marker::PhantomData;
 
-/// A filter of finite impulse response over integers: each item that it gives is the exact sum of products of taps and items up to the newest (the
-/// first tap with the newest), over `2 ^ shift`, rounded to the nearest (ties round up) and clamped to the items' type. `R` says what its rate is.
-/// Its taps are in force until a setting replaces them.
+/// A filter of finite impulse response over integers: each item that it gives is the exact sum of products of taps and
+/// items up to the newest (the first tap with the newest), over `2 ^ shift`, rounded to the nearest (ties round up) and
+/// clamped to the items' type. `R` says what its rate is. Its taps are in force until a setting replaces them.
 #[derive(Drop)]
 #[derive_where(Debug, PartialEq, Eq)]
 pub struct Filter<R> {
@@ -38,8 +38,9 @@ impl<R: FilterRate> Filter<R> {
     ghost use Rattle.fir_blocks.specs.Filters.{IsFilter};
     ghost use Rattle.fir_blocks.specs.Parameters.{AreParameters, IsRefusal};
 
-    /// The filter of shorts or ints with a copy of 1 to 256 taps of 16 bits, a decimation or an interpolation of 1 to 1,024 and a shift of 0 to 31.
-    /// `BadParameter` names the first that is not so, in this order; `Memory` comes only where the allocator refuses the copy.
+    /// The filter of shorts or ints with a copy of 1 to 256 taps of 16 bits, a decimation or an interpolation of 1 to
+    /// 1,024 and a shift of 0 to 31. `BadParameter` names the first that is not so, in this order; `Memory` comes only
+    /// where the allocator refuses the copy.
     pub fn new(
         alloc: Global,
         item: ItemType,

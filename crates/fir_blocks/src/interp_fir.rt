@@ -5,8 +5,8 @@ use crate::filter_rate::FilterRate;
 use crate::polyphase::Polyphase;
 use block_parameters::Parameter;
 
-/// An interpolating filter, as GNU Radio's `interp_fir_filter_xxx` over integers: for each item it gives `interpolation` items, one by each branch of
-/// the taps (polyphase).
+/// An interpolating filter, as GNU Radio's `interp_fir_filter_xxx` over integers: for each item it gives
+/// `interpolation` items, one by each branch of the taps (polyphase).
 pub type InterpFir = Filter<Interpolation>;
 
 /// The rate is how many items a firing gives.

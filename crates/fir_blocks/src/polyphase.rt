@@ -39,7 +39,8 @@ impl Polyphase {
     // A branch of the taps, the last first: so it lies as the items do.
     fn branch_of(&self, taps: &[i16], phase: usize) -> [i16; 256]
         requires { phase < self.now.given }
-        ensures { (j : ℕ) → j < self.now.branch → item result (self.now.branch - 1 - j) ≡ item taps.now (phase + j * self.now.given) }
+        ensures { (j : ℕ) → j < self.now.branch → item result (self.now.branch - 1 - j)
+            ≡ item taps.now (phase + j * self.now.given) }
     {
         let mut branch = [0; 256];
         for j in 0..self.branch {
@@ -61,8 +62,10 @@ impl Polyphase {
         requires phase { phase < self.now.given }
         requires sized { IsSized self.now count (length window.now) (length out.old) }
         ensures written { (k : ℕ) → k < count → item (map T.number out.new) (k * self.now.given + phase)
-            ≡ sat T.kind (rnd (sum_below self.now.branch (λ j. item branch.now j *ℤ item (map T.number window.now) (k * self.now.taken + j))) self.now.shift) }
-        ensures kept { (n : ℕ) → n % self.now.given ≢ phase → item (map T.number out.new) n ≡ item (map T.number out.old) n }
+            ≡ sat T.kind (rnd (sum_below self.now.branch (λ j. item branch.now j *ℤ item (map T.number window.now)
+            (k * self.now.taken + j))) self.now.shift) }
+        ensures kept { (n : ℕ) → n % self.now.given ≢ phase → item (map T.number out.new) n
+            ≡ item (map T.number out.old) n }
     {
         for firing in 0..count {
             let start = firing * self.taken;
@@ -74,7 +77,8 @@ impl Polyphase {
     /// Writes what the firings give under these taps: those of which `window` has the items, behind the past.
     pub fn write<T: TapLane>(&self, taps: &[i16], window: &[T], count: usize, out: &mut [T])
         requires { IsSized self.now count (length window.now) (length out.old) }
-        ensures { (n : ℕ) → n < self.now.given * count → item (map T.number out.new) n ≡ phased T.kind self.now taps.now (map T.number window.now) n }
+        ensures { (n : ℕ) → n < self.now.given * count → item (map T.number out.new) n
+            ≡ phased T.kind self.now taps.now (map T.number window.now) n }
     {
         if self.taken == 1 && self.given == 1 && taps.len() == self.branch {
             fir_row(taps, window, self.shift, out);

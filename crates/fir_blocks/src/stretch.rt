@@ -48,8 +48,10 @@ fn write_stretch<T: TapLane>(
     requires rises { start ≤ stop }
     requires within { stop ≤ count }
     requires sized { IsSized filter.now count (length window.now) (length out.old) }
-    ensures written { (n : ℕ) → filter.now.given * start ≤ n → n < filter.now.given * stop → item (map T.number out.new) n ≡ phased T.kind filter.now taps.now (map T.number window.now) n }
-    ensures kept { (n : ℕ) → n < filter.now.given * start → item (map T.number out.new) n ≡ item (map T.number out.old) n }
+    ensures written { (n : ℕ) → filter.now.given * start ≤ n → n < filter.now.given * stop
+        → item (map T.number out.new) n ≡ phased T.kind filter.now taps.now (map T.number window.now) n }
+    ensures kept { (n : ℕ) → n < filter.now.given * start → item (map T.number out.new) n
+        ≡ item (map T.number out.old) n }
 {
     let items = &window[filter.taken * start..filter.branch - 1 + filter.taken * stop];
     let outputs = &mut out[filter.given * start..filter.given * stop];
@@ -69,7 +71,8 @@ fn write_stretches<T: TapLane>(
     requires small { first + count < 2 ^ 63 }
     requires sized { IsSized filter.now count (length window.now) (length out.old) }
     ensures { map T.number out.new ≡ listed (filter.now.given * count)
-        (λ n. phased T.kind filter.now (taps_among (map held_of held.now) (filter.now.taken * (first + n / filter.now.given))) (map T.number window.now) n) }
+        (λ n. phased T.kind filter.now (taps_among (map held_of held.now)
+        (filter.now.taken * (first + n / filter.now.given))) (map T.number window.now) n) }
 {
     let end = first + count as u64;
     let mut at = first;
@@ -104,7 +107,8 @@ fn filter_lanes<T: TapLane>(
     requires takes { length window.now ≡ filter.now.branch - 1 + filter.now.taken * count }
     requires room { filter.now.given * count ≤ vec_capacity out.old - vec_len out.old }
     ensures items { map T.number out.new.items ≡ listed (filter.now.given * count)
-        (λ n. phased T.kind filter.now (taps_among (map held_of held.now) (filter.now.taken * (first + n / filter.now.given))) (map T.number window.now) n) }
+        (λ n. phased T.kind filter.now (taps_among (map held_of held.now)
+        (filter.now.taken * (first + n / filter.now.given))) (map T.number window.now) n) }
     ensures capacity { vec_capacity out.old ≤ vec_capacity out.new }
 {
     append_copies(out, filter.given * count, T::narrow(0));
@@ -130,7 +134,8 @@ pub(crate) fn filter_items(
     requires room { filter.now.given * count ≤ spare_of out.old }
     ensures item_type { type_of out.new ≡ type_of out.old }
     ensures numbers { numbers_of out.new ≡ listed (filter.now.given * count)
-        (λ n. phased (type_of window.now) filter.now (taps_among (map held_of held.now) (filter.now.taken * (first + n / filter.now.given))) (numbers_of window.now) n) }
+        (λ n. phased (type_of window.now) filter.now (taps_among (map held_of held.now)
+        (filter.now.taken * (first + n / filter.now.given))) (numbers_of window.now) n) }
     ensures room { spare_of out.old ≤ spare_of out.new + length (numbers_of out.new) }
 {
     match (window, out) {

@@ -1,4 +1,5 @@
--- The states that counts of firings and tapes stand for. What a claim decides looks at no item, so that lengths stand for tapes.
+-- The states that counts of firings and tapes stand for. What a claim decides looks at no item, so that lengths stand
+-- for tapes.
 use Rattle.std.specs.Prelude.{ℕ, ◌≡◌, pos, List, [], map, length, replicate}
 use Rattle.stream_model.specs.Network as model
 use Rattle.stream_model.specs.Network.{Network, Handed, State}
@@ -45,4 +46,5 @@ rows_of items rows = map items rows
 -- where one was the progress of some sound state with these tapes, so is the other
 abbrev pub StaysRunning : List model.Progress → List model.Progress → Type 0
 StaysRunning old new =
-    (net : Network) (caps : Capacities) (tapes : List Tape) → CanRun net → IsRunning net caps tapes old → IsRunning net caps tapes new
+    (net : Network) (caps : Capacities) (tapes : List Tape) → CanRun net → IsRunning net caps tapes old
+    → IsRunning net caps tapes new

@@ -70,7 +70,8 @@ impl<B: Block, T: Tapes> Situation<'_, B, T> {
     /// How far the reader at the end of a connection is.
     pub(crate) fn reader(&self, connection: &Connection) -> Reader
         requires { IsReader (net_seen B.meaning self.now) connection.now }
-        ensures value { reader_of result ≡ reader_counts (net_seen B.meaning self.now) (state_seen self.now) (connection_of connection.now) }
+        ensures value { reader_of result ≡ reader_counts (net_seen B.meaning self.now) (state_seen self.now)
+            (connection_of connection.now) }
         ensures small { result.taken < 2 ^ 62 }
     {
         let own = self.progress(connection.to);

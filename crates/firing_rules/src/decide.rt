@@ -48,7 +48,8 @@ impl<B: Block, T: Tapes> Situation<'_, B, T> {
     // Whether each reader of an output is done.
     fn is_abandoned(&self, port: usize) -> bool
         requires { port < used_outputs (net_seen B.meaning self.now) self.now.block }
-        ensures { result ≡ claims.is_abandoned (output_counts (net_seen B.meaning self.now) self.now.capacities (state_seen self.now) self.now.block port) }
+        ensures { result ≡ claims.is_abandoned (output_counts (net_seen B.meaning self.now) self.now.capacities
+            (state_seen self.now) self.now.block port) }
     {
         let readers = self.readers(port);
         for connection in readers {
@@ -110,7 +111,8 @@ impl<B: Block, T: Tapes> Situation<'_, B, T> {
 
     /// Whether the block is done or would wait.
     pub(crate) fn rests(&self) -> bool
-        ensures { result ≡ rests (net_seen B.meaning self.now) self.now.capacities (state_seen self.now) self.now.block }
+        ensures { result ≡ rests (net_seen B.meaning self.now) self.now.capacities (state_seen self.now)
+            self.now.block }
     {
         self.own().done || waits(self.decide(1))
     }

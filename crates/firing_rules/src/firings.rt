@@ -95,15 +95,18 @@ impl Firings {
         block: BlockId,
         max: u32,
     ) -> Decision
-        requires running { IsRunning (net_of B.meaning graph.now) (rows_of (λ row. row.items) capacities.now) (T.tapes tapes.now) self.old }
+        requires running { IsRunning (net_of B.meaning graph.now) (rows_of (λ row. row.items) capacities.now)
+            (T.tapes tapes.now) self.old }
         requires block { block.0 < length graph.now.blocks }
         ensures decision { (hs : List Handed) → HasTapes (T.tapes tapes.now) hs →
             let net = net_of B.meaning graph.now in
             let counts = counts_of net (rows_of (λ row. row.items) capacities.now) (state_of hs self.old) block.0 in
             result ≡ answer_of counts.firings (claims.decide (node_at net block.0) counts max) }
         ensures progress { (hs : List Handed) → HasTapes (T.tapes tapes.now) hs →
-            (claim_of (net_of B.meaning graph.now) (rows_of (λ row. row.items) capacities.now) (state_of hs self.old) block.0 max).1 ≡ state_of hs self.new }
-        ensures running { IsRunning (net_of B.meaning graph.now) (rows_of (λ row. row.items) capacities.now) (T.tapes tapes.now) self.new }
+            (claim_of (net_of B.meaning graph.now) (rows_of (λ row. row.items) capacities.now) (state_of hs self.old)
+            block.0 max).1 ≡ state_of hs self.new }
+        ensures running { IsRunning (net_of B.meaning graph.now) (rows_of (λ row. row.items) capacities.now)
+            (T.tapes tapes.now) self.new }
     {
         graph.recall();
         let decision = Situation::of(graph, capacities, tapes, self, block).decide(max);
@@ -151,9 +154,11 @@ impl Firings {
         capacities: &[Vec<u32>],
         tapes: &T,
     ) -> bool
-        requires { IsRunning (net_of B.meaning graph.now) (rows_of (λ row. row.items) capacities.now) (T.tapes tapes.now) self.now }
+        requires { IsRunning (net_of B.meaning graph.now) (rows_of (λ row. row.items) capacities.now)
+            (T.tapes tapes.now) self.now }
         ensures { (hs : List Handed) → HasTapes (T.tapes tapes.now) hs →
-            result ≡ is_quiet (net_of B.meaning graph.now) (rows_of (λ row. row.items) capacities.now) (state_of hs self.now) }
+            result ≡ is_quiet (net_of B.meaning graph.now) (rows_of (λ row. row.items) capacities.now)
+            (state_of hs self.now) }
     {
         if !self.idle() {
             return false;
@@ -174,10 +179,12 @@ impl Firings {
         tapes: &T,
         block: BlockId,
     ) -> BlockNeed
-        requires running { IsRunning (net_of B.meaning graph.now) (rows_of (λ row. row.items) capacities.now) (T.tapes tapes.now) self.now }
+        requires running { IsRunning (net_of B.meaning graph.now) (rows_of (λ row. row.items) capacities.now)
+            (T.tapes tapes.now) self.now }
         requires block { block.0 < length graph.now.blocks }
         ensures { (hs : List Handed) → HasTapes (T.tapes tapes.now) hs →
-            wait_seen result ≡ wait_of (net_of B.meaning graph.now) (rows_of (λ row. row.items) capacities.now) (state_of hs self.now) block.0 }
+            wait_seen result ≡ wait_of (net_of B.meaning graph.now) (rows_of (λ row. row.items) capacities.now)
+            (state_of hs self.now) block.0 }
     {
         Situation::of(graph, capacities, tapes, self, block).need()
     }

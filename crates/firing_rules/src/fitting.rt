@@ -65,7 +65,8 @@ impl Supply {
         requires { Tells next self.fit }
         ensures tells { Tells next result.fit }
         ensures allowed { result.fit.allowed ≡ min self.fit.allowed allowed }
-        ensures lacking { result.fit.lacking ≡ option_or self.fit.lacking (if nat_le next allowed then None else Some port) }
+        ensures lacking { result.fit.lacking ≡ option_or self.fit.lacking
+            (if nat_le next allowed then None else Some port) }
         ensures over { result.over ≡ (self.over || (input.ended && not (nat_le next allowed))) }
     {
         Supply {
@@ -79,9 +80,12 @@ impl<B: Block, T: Tapes> Situation<'_, B, T> {
     /// How many of `bound` firings the items on each input allow, and what firing `next` lacks.
     pub(crate) fn supply(&self, next: u64, bound: u64) -> Supply
         requires { next ≤ bound }
-        ensures allowed { result.fit.allowed ≡ allow.items_allow (node_seen B.meaning self.now) 0 (map (λ i. i.written) (counts_seen B.meaning self.now).inputs) bound }
-        ensures lacking { result.fit.lacking ≡ claims.lacks_items (node_seen B.meaning self.now) next 0 (counts_seen B.meaning self.now).inputs }
-        ensures over { result.over ≡ claims.lacks_for_good (node_seen B.meaning self.now) next 0 (counts_seen B.meaning self.now).inputs }
+        ensures allowed { result.fit.allowed ≡ allow.items_allow (node_seen B.meaning self.now) 0
+            (map (λ i. i.written) (counts_seen B.meaning self.now).inputs) bound }
+        ensures lacking { result.fit.lacking ≡ claims.lacks_items (node_seen B.meaning self.now) next 0
+            (counts_seen B.meaning self.now).inputs }
+        ensures over { result.over ≡ claims.lacks_for_good (node_seen B.meaning self.now) next 0
+            (counts_seen B.meaning self.now).inputs }
         ensures tells { Tells next result.fit }
     {
         self.recall();
@@ -100,8 +104,10 @@ impl<B: Block, T: Tapes> Situation<'_, B, T> {
     /// How many of `bound` firings each output has room for, and what firing `next` lacks.
     pub(crate) fn room(&self, next: u64, bound: u64) -> Fit
         requires { next ≤ bound }
-        ensures allowed { result.allowed ≡ allow.room_allows (node_seen B.meaning self.now) (counts_seen B.meaning self.now).outputs bound }
-        ensures lacking { result.lacking ≡ claims.lacks_room (node_seen B.meaning self.now) next 0 (counts_seen B.meaning self.now).outputs }
+        ensures allowed { result.allowed ≡ allow.room_allows (node_seen B.meaning self.now)
+            (counts_seen B.meaning self.now).outputs bound }
+        ensures lacking { result.lacking ≡ claims.lacks_room (node_seen B.meaning self.now) next 0
+            (counts_seen B.meaning self.now).outputs }
         ensures tells { Tells next result }
     {
         self.recall();
@@ -116,7 +122,8 @@ impl<B: Block, T: Tapes> Situation<'_, B, T> {
     // How many of `bound` firings fit before each live reader of an output.
     fn room_at(&self, port: usize, bound: u64) -> u64
         requires { port < used_outputs (net_seen B.meaning self.now) self.now.block }
-        ensures value { let output = output_counts (net_seen B.meaning self.now) self.now.capacities (state_seen self.now) self.now.block port in
+        ensures value { let output = output_counts (net_seen B.meaning self.now) self.now.capacities
+            (state_seen self.now) self.now.block port in
             result ≡ allow.readers_allow (node_seen B.meaning self.now) output.capacity output.readers bound }
         ensures within { result ≤ bound }
     {

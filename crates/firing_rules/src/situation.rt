@@ -50,9 +50,11 @@ impl<'a, B: Block, T: Tapes> Situation<'a, B, T> {
         firings: &'a Firings,
         block: BlockId,
     ) -> Situation<'a, B, T>
-        requires running { IsRunning (net_of B.meaning graph.now) (rows_of (λ row. row.items) capacities.now) (T.tapes tapes.now) firings.now }
+        requires running { IsRunning (net_of B.meaning graph.now) (rows_of (λ row. row.items) capacities.now)
+            (T.tapes tapes.now) firings.now }
         requires block { block.0 < length graph.now.blocks }
-        ensures { result ≡ seen graph.now (rows_of (λ row. row.items) capacities.now) (T.tapes tapes.now) firings.now block.0 }
+        ensures { result ≡ seen graph.now (rows_of (λ row. row.items) capacities.now) (T.tapes tapes.now) firings.now
+            block.0 }
     {
         graph.recall();
         Situation {
@@ -91,7 +93,8 @@ impl<'a, B: Block, T: Tapes> Situation<'a, B, T> {
     pub(crate) fn writer(&self, port: usize) -> Option<BlockId>
         requires { port < length (counts_seen B.meaning self.now).inputs }
         ensures value { let net = net_seen B.meaning self.now in
-            option_map (λ w. w.0) result ≡ (if is_source (role_at net self.now.block) then None else Some (writer_of net self.now.block port).from) }
+            option_map (λ w. w.0) result ≡ (if is_source (role_at net self.now.block) then None else Some
+            (writer_of net self.now.block port).from) }
         ensures there { IfSome result (λ w. w.0 < length self.now.graph.blocks) }
     {
         if self.graph.is_source(self.block) {

@@ -35,7 +35,8 @@ pub enum BlockNeed {
 impl<B: Block, T: Tapes> Situation<'_, B, T> {
     /// What the block waits for.
     pub(crate) fn need(&self) -> BlockNeed
-        ensures { wait_seen result ≡ wait_of (net_seen B.meaning self.now) self.now.capacities (state_seen self.now) self.now.block }
+        ensures { wait_seen result ≡ wait_of (net_seen B.meaning self.now) self.now.capacities (state_seen self.now)
+            self.now.block }
     {
         match self.decide(1) {
             Decision::Done => BlockNeed::Done,
@@ -74,7 +75,8 @@ impl<B: Block, T: Tapes> Situation<'_, B, T> {
     // The slowest live reader among some; the first of them if several are.
     fn slowest(&self, readers: &[Connection]) -> Option<Connection>
         requires { All (IsReader (net_seen B.meaning self.now)) readers.now }
-        ensures { option_map connection_of result ≡ slowest (net_seen B.meaning self.now) (state_seen self.now) None (map connection_of readers.now) }
+        ensures { option_map connection_of result ≡ slowest (net_seen B.meaning self.now) (state_seen self.now) None
+            (map connection_of readers.now) }
     {
         let mut best = None;
         for connection in readers {
@@ -87,7 +89,8 @@ impl<B: Block, T: Tapes> Situation<'_, B, T> {
     fn slower(&self, best: Option<Connection>, connection: &Connection) -> Option<Connection>
         requires known { IsReader (net_seen B.meaning self.now) connection.now }
         requires best { IsKnown (net_seen B.meaning self.now) best }
-        ensures value { option_map connection_of result ≡ slower (net_seen B.meaning self.now) (state_seen self.now) (option_map connection_of best) (connection_of connection.now) }
+        ensures value { option_map connection_of result ≡ slower (net_seen B.meaning self.now) (state_seen self.now)
+            (option_map connection_of best) (connection_of connection.now) }
         ensures known { IsKnown (net_seen B.meaning self.now) result }
     {
         let reader = self.reader(connection);

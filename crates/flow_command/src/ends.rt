@@ -194,7 +194,8 @@ impl<'a> Ends<'a> {
 
     /// Whether there are none.
     pub fn are_none(&self) -> bool
-        ensures { IsTrue result ↔ ((vec_len self.now.inputs ≡ 0) × (vec_len self.now.marks ≡ 0) × (vec_len self.now.outputs ≡ 0) × (vec_len self.now.tags ≡ 0)) }
+        ensures { IsTrue result ↔ ((vec_len self.now.inputs ≡ 0) × (vec_len self.now.marks ≡ 0)
+            × (vec_len self.now.outputs ≡ 0) × (vec_len self.now.tags ≡ 0)) }
     {
         self.inputs.is_empty()
             && self.marks.is_empty()

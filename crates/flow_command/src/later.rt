@@ -26,7 +26,8 @@ pub fn later_plant(
 ) -> Result<Option<StreamingPlant<Kind>>, AllocError>
     ensures { IfOk result (λ found. MatchOption found ((iterations ≡ 0) ⊎ NoneCounts (counting_of counts_of graph.now))
         (λ p. (q : List ℕ) × (balance_of (net_of meaning_of graph.now) ≡ Balanced q)
-        × HasGoneOn (net_of meaning_of graph.now) q (looks_of look_back_of graph.now) iterations (net_of meaning_of p.plant.graph))) }
+        × HasGoneOn (net_of meaning_of graph.now) q (looks_of look_back_of graph.now) iterations
+        (net_of meaning_of p.plant.graph))) }
 {
     if iterations == 0 || first_to_count(graph).is_none() {
         return Ok(None);

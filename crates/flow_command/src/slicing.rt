@@ -56,7 +56,8 @@ pub fn asks_for(ends: &Ends<'_>) -> Asks {
 
 /// The plan by which the runs of a graph are cut, for items or for tags too, and its rates.
 pub fn plan_of(alloc: Global, graph: &Valid<Kind>, asks: Asks) -> Result<(Repetitions, Plan), Uncut>
-    ensures { IfOk result (λ made. IsPlan (net_of meaning_of graph.now) made.0.firings.items (looks_of look_back_of graph.now) made.1) }
+    ensures { IfOk result (λ made. IsPlan (net_of meaning_of graph.now) made.0.firings.items
+        (looks_of look_back_of graph.now) made.1) }
 {
     match balance(alloc, graph)? {
         Rates::Balanced(rates) => match plan_slices(alloc, graph, &rates, asks)? {

@@ -60,8 +60,10 @@ held_lines net st b = flat_map tag_line (held_tags net st b)
 pub record IsPieceOf (net : Network) (st : State) (b from most : ℕ) (piece : Piece) : Type 0 where
   pub typed : type_of piece.items ≡ held_type net b
   pub held : piece.held ≡ held_count st b
-  pub items : numbers_of piece.items ≡ slice_range (input (entering net st.handed b) 0) from (min (from + most) (held_count st b))
-  pub tags : map tag_of piece.tags.items ≡ tags_within from (min (from + most) (held_count st b)) (tags_entering net st.handed b 0)
+  pub items : numbers_of piece.items ≡ slice_range (input (entering net st.handed b) 0) from
+      (min (from + most) (held_count st b))
+  pub tags : map tag_of piece.tags.items ≡ tags_within from (min (from + most) (held_count st b))
+      (tags_entering net st.handed b 0)
 
 -- block b is no sink
 abbrev pub IsNoSink : Network → ℕ → EndFault → Type 0
@@ -76,7 +78,8 @@ IsNoSink net b CutItem = ⊥
 IsNoSink net b (BadLine line) = ⊥
 IsNoSink net b (TagPlace line) = ⊥
 
--- why a text of block b was not written whole: it is no sink, and nothing was written; or a write failed, behind a beginning
+-- why a text of block b was not written whole: it is no sink, and nothing was written; or a write failed, behind a
+-- beginning
 abbrev pub IsUnwritten : Network → ℕ → Option (List ℕ) → Option (List ℕ) → List ℕ → EndFault → Type 0
 IsUnwritten net b out out' text Write = AppendsBeginning out out' text
 IsUnwritten net b out out' text fault = IsNoSink net b fault × (out' ≡ out)
@@ -91,7 +94,8 @@ abbrev pub rest_line : Draft → State → List ℕ → ℕ → List ℕ
 rest_line d st drained b =
     let from = slice_index_or drained b 0 in
     if is_keeper (role_at d.net b)
-    then line_text (sink_text (name_at d b) (held_count st b) (slice_range (input (entering d.net st.handed b) 0) from (held_count st b)) (tags_within from (held_count st b) (tags_entering d.net st.handed b 0)))
+    then line_text (sink_text (name_at d b) (held_count st b) (slice_range (input (entering d.net st.handed b) 0) from
+    (held_count st b)) (tags_within from (held_count st b) (tags_entering d.net st.handed b 0)))
     else []
 
 -- of each sink, where so many items were drained of each

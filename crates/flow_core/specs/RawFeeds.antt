@@ -33,7 +33,8 @@ abbrev pub feed_bytes : Network → State → ℕ → ByteOrder → List ℕ →
 feed_bytes net st b order bytes = feed_of net st b (given_type net b) (items_of (given_type net b) order bytes) []
 
 -- an input was read to its end, its bytes are whole items, and block b was fed these
-pub record IsFedBy (net : Network) (st st' : State) (b : ℕ) (order : ByteOrder) (input input' : Option (List ℕ)) : Type 0 where
+pub record IsFedBy (net : Network) (st st' : State) (b : ℕ) (order : ByteOrder) (input input' : Option (List ℕ)) : Type
+    0 where
   pub bytes : List ℕ
   pub read : Consumes input input' bytes
   pub at_end : IsAtEnd input'
@@ -54,8 +55,8 @@ IsRefusedFor reply CutItem = ⊥
 IsRefusedFor reply (BadLine line) = ⊥
 IsRefusedFor reply (TagPlace line) = ⊥
 
--- what is wrong behind these bytes of an input: the source does not take the items that they are, no more could be read, or the input ends there
--- within an item
+-- what is wrong behind these bytes of an input: the source does not take the items that they are, no more could be
+-- read, or the input ends there within an item
 abbrev pub IsWrong : Network → State → ℕ → ByteOrder → Option (List ℕ) → List ℕ → EndFault → Type 0
 IsWrong net st b order input' bytes Read = (total : ℕ) × ((feed_bytes net st b order bytes).0 ≡ machine.Fed total)
 IsWrong net st b order input' bytes CutItem = IsAtEnd input' × (0 < length (cut_of (given_type net b) bytes))
@@ -67,7 +68,8 @@ IsOfEnd place Wrong (End at fault) = (at ≡ place) × Wrong fault
 IsOfEnd place Wrong (Whole fault) = fault ≡ Script script.Memory
 
 -- input n was read up to where something is wrong, or where memory ran out
-pub record StopsFeeding (net : Network) (st : State) (b : ℕ) (order : ByteOrder) (n : ℕ) (input input' : Option (List ℕ)) (fault : RawFault) : Type 0 where
+pub record StopsFeeding (net : Network) (st : State) (b : ℕ) (order : ByteOrder) (n : ℕ)
+    (input input' : Option (List ℕ)) (fault : RawFault) : Type 0 where
   pub bytes : List ℕ
   pub read : Consumes input input' bytes
   pub stops : IsOfEnd (Input n) (IsWrong net st b order input' bytes) fault

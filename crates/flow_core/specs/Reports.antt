@@ -33,13 +33,15 @@ rates_text d TooLarge = line_text too_large_text
 
 -- the report of a valid graph
 abbrev pub check_text : Draft → List ℕ
-check_text d = line_text (blocks_text (length d.net.nodes)) ++ line_text (connections_text (length d.net.connections)) ++ rates_text d (balance_of d.net)
+check_text d = line_text (blocks_text (length d.net.nodes)) ++ line_text (connections_text (length d.net.connections))
+    ++ rates_text d (balance_of d.net)
 
 -- all that sink b holds: the items that it has taken of its entering stream, and the tags on them
 abbrev pub held_line : Draft → State → ℕ → List ℕ
 held_line d st b =
     let held = (progress_at st.progress b).firings in
-    line_text (sink_text (name_at d b) held (take held (input (entering d.net st.handed b) 0)) (tags_within 0 held (tags_entering d.net st.handed b 0)))
+    line_text (sink_text (name_at d b) held (take held (input (entering d.net st.handed b) 0))
+    (tags_within 0 held (tags_entering d.net st.handed b 0)))
 
 -- a block that keeps no items has no line
 abbrev pub sink_line : Draft → State → ℕ → List ℕ

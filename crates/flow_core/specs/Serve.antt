@@ -88,7 +88,8 @@ pub record IsAtRest (net : Network) (caps : Capacities) (st : State) : Type 0 wh
   pub whole : is_all_done st ≡ true → IsWhole net st
   pub quiet : is_all_done st ≡ false → is_quiet net caps st ≡ true
 
--- a run of a file on one thread: its plant with all sources closed went on, block by block, until it came to rest, and is reported as it was then
+-- a run of a file on one thread: its plant with all sources closed went on, block by block, until it came to rest, and
+-- is reported as it was then
 pub record IsRunAlone (file text : List ℕ) (status : ℕ) : Type 0 where
   pub plant : Opened
   pub opens : plant_in file ≡ Ok plant
@@ -118,11 +119,13 @@ abbrev pub Writes : (List ℕ → ℕ → Type 0) → Option (List ℕ) → Opti
 Writes IsDone out out' status = (text : List ℕ) × IsDone text status × Appends out out' text
 
 -- nothing was written, or the write of such a text failed and left a beginning of it
-abbrev pub WritesNot : {A : Type 0} → (List ℕ → ℕ → Type 0) → Result A Refusal → Option (List ℕ) → Option (List ℕ) → Fault → Type 0
+abbrev pub WritesNot : {A : Type 0} → (List ℕ → ℕ → Type 0) → Result A Refusal → Option (List ℕ) → Option (List ℕ)
+    → Fault → Type 0
 WritesNot IsDone r out out' (File fault) = IsRefused r fault × (out' ≡ out)
 WritesNot IsDone r out out' (Script (BadLine n)) = ⊥
 WritesNot IsDone r out out' (Script Read) = ⊥
-WritesNot IsDone r out out' (Script Write) = (text : List ℕ) × (status : ℕ) × IsDone text status × AppendsBeginning out out' text
+WritesNot IsDone r out out' (Script Write) = (text : List ℕ) × (status : ℕ) × IsDone text status
+    × AppendsBeginning out out' text
 WritesNot IsDone r out out' (Script Memory) = IsOk r × (out' ≡ out)
 
 -- a script ran on the plant of a file to the end of its input
@@ -159,7 +162,8 @@ writes_in (Err fault) = writes_failed fault
 
 -- a line was written, or a beginning of it where the write failed
 abbrev pub Tries : Stream → Stream → List ℕ → Type 0
-Tries old new line = (Appends old.bytes new.bytes line × (new.failed ≡ old.failed)) ⊎ (AppendsBeginning old.bytes new.bytes line × (new.failed ≡ old.failed + 1))
+Tries old new line = (Appends old.bytes new.bytes line × (new.failed ≡ old.failed))
+    ⊎ (AppendsBeginning old.bytes new.bytes line × (new.failed ≡ old.failed + 1))
 
 -- a text was written by a call that went well, or a beginning of it by one that failed
 abbrev pub Puts : Result (Unit {0}) Broken → Stream → Stream → List ℕ → Type 0
@@ -168,7 +172,8 @@ Puts (Err broken) old new text = AppendsBeginning old.bytes new.bytes text × (n
 
 -- why a plant stalled is explained, with its rates only where they are known
 abbrev pub Explains : Opened → Stream → Stream → Type 0
-Explains plant old new = (known : Bool) × Tries old new (stall_text (uneven_line known (balance_of plant.draft.net)) plant.draft plant.capacities plant.state)
+Explains plant old new = (known : Bool) × Tries old new (stall_text (uneven_line known (balance_of plant.draft.net))
+    plant.draft plant.capacities plant.state)
 
 -- the plant that stalled is explained, if there is one and that is wanted; else nothing is
 abbrev pub Remarks : Verbosity → Option Opened → Stream → Stream → Type 0

@@ -73,15 +73,18 @@ abbrev pub kept_in : {J : Type 0} → List (Option J) → List Bool
 kept_in jobs = map is_there jobs
 
 -- a job is the claim of its block that is in flight
-pub record IsFlying {B : Type 0} (net : Network) (graph : Flowgraph B) (st : State) (b : ℕ) (job : JobState B) : Type 0 where
-  pub graph_is : job.graph ≡ graph
-  pub some : 0 < (progress_at st.progress b).claimed
-  pub flight : job.job ≡ in_flight net st b
+pub record IsFlying {B : Type 0} (net : Network) (graph : Flowgraph B) (st : State) (b : ℕ) (job : JobState B) : Type 0
+  where
+    pub graph_is : job.graph ≡ graph
+    pub some : 0 < (progress_at st.progress b).claimed
+    pub flight : job.job ≡ in_flight net st b
 
 -- each kept job is, and there is a place for each block
-pub record KeepsJobs {B : Type 0} (net : Network) (graph : Flowgraph B) (st : State) (jobs : List (Option (JobState B))) : Type 0 where
+pub record KeepsJobs {B : Type 0} (net : Network) (graph : Flowgraph B) (st : State) (jobs : List (Option (JobState B)))
+    : Type 0 where
   pub places : length jobs ≡ length net.nodes
-  pub flying : (b : ℕ) → b < length net.nodes → (job : JobState B) → slice_index_or jobs b None ≡ Some job → IsFlying net graph st b job
+  pub flying : (b : ℕ) → b < length net.nodes → (job : JobState B) → slice_index_or jobs b None ≡ Some job
+      → IsFlying net graph st b job
 
 -- the number of the block of this name
 abbrev pub block_of : Graph → List ℕ → Option ℕ
@@ -102,7 +105,8 @@ abbrev pub set_wanted : Network → State → ℕ → Option ℕ → List ℤ �
 set_wanted net st b at zs None = (Refused machine.no_setting, st)
 set_wanted net st b at zs (Some w) = set_value net st b at (value_for w zs)
 
--- a block's setting is set to numbers; it is refused where it has none, where they are no value of it, and where it comes too late
+-- a block's setting is set to numbers; it is refused where it has none, where they are no value of it, and where it
+-- comes too late
 abbrev pub set_numbers : Network → State → ℕ → Option ℕ → List ℤ → Reply × State
 set_numbers net st b at zs = set_wanted net st b at zs (node_at net b).meaning.setting
 
@@ -113,7 +117,11 @@ pub record Answer : Type 0 where
   pub after : Standing
 
 abbrev pub told : Bool → List Bool → Reply × State → Answer
-told wants kept now = record { text = reply_text now.0; wants_memory = wants; after = record { state = now.1; kept = kept } }
+told wants kept now = record {
+  text = reply_text now.0;
+  wants_memory = wants;
+  after = record { state = now.1; kept = kept };
+}
 
 -- a call that leaves the kept claims
 abbrev pub called : List Bool → Reply × State → Answer
@@ -180,7 +188,8 @@ reply_line reply = line_text (reply_text reply)
 
 -- an answer was given; or memory ran out where it may, and all is as before
 abbrev pub Gives : Answer → Standing → Standing → List ℕ → Type 0
-Gives a old new line = ((line ≡ line_text a.text) × (new ≡ a.after)) ⊎ ((a.wants_memory ≡ true) × (line ≡ reply_line no_memory) × (new ≡ old))
+Gives a old new line = ((line ≡ line_text a.text) × (new ≡ a.after))
+    ⊎ ((a.wants_memory ≡ true) × (line ≡ reply_line no_memory) × (new ≡ old))
 
 -- how many firings of a block are stepped at once where all blocks are, at most
 abbrev pub turn : ℕ
@@ -209,16 +218,21 @@ abbrev pub Settles : Bool → Graph → Standing → Standing → List ℕ → T
 Settles true g old new line = Stepped g old new line
 Settles false g old new line = (line ≡ reply_line machine.Busy) × (new ≡ old)
 
--- a command was answered, where block b has the name in it, and the script went from one standing to the next. One without a name is for all blocks
+-- a command was answered, where block b has the name in it, and the script went from one standing to the next. One
+-- without a name is for all blocks
 unfoldable pub AnswersOn : Graph → ℕ → Command → Standing → Standing → List ℕ → Type 0
-AnswersOn g b (Feed name xs ms) old new line = Gives (called old.kept (feed_numbers g.net old.state b xs ms)) old new line
+AnswersOn g b (Feed name xs ms) old new line = Gives (called old.kept (feed_numbers g.net old.state b xs ms)) old new
+    line
 AnswersOn g b (Close name) old new line = Gives (called old.kept (machine.close_of g.net old.state b)) old new line
-AnswersOn g b (Set name at zs) old new line = Gives (set_answer g.net old b (set_numbers g.net old.state b at zs)) old new line
+AnswersOn g b (Set name at zs) old new line = Gives (set_answer g.net old b (set_numbers g.net old.state b at zs)) old
+    new line
 AnswersOn g b (Claim name max) old new line = Gives (claim_answer g.net g.caps old b max) old new line
 AnswersOn g b (Commit name) old new line = Gives (commit_answer g.net old b) old new line
 AnswersOn g b (Abandon name) old new line = Gives (abandon_answer g.net old b) old new line
-AnswersOn g b (Step name max) old new line = Gives (called old.kept (machine.step_of g.net g.caps old.state b max)) old new line
-AnswersOn g b (Read name from max) old new line = Gives (called old.kept (machine.read_of g.net old.state b from max)) old new line
+AnswersOn g b (Step name max) old new line = Gives (called old.kept (machine.step_of g.net g.caps old.state b max)) old
+    new line
+AnswersOn g b (Read name from max) old new line = Gives (called old.kept (machine.read_of g.net old.state b from max))
+    old new line
 AnswersOn g b (Why name) old new line = Gives (why_answer g old b) old new line
 AnswersOn g b Quiet old new line = Gives (quiet_answer g old) old new line
 AnswersOn g b Settle old new line = Settles (machine.is_idle old.state) g old new line
@@ -253,7 +267,8 @@ Answers g c old new line = AnswersNamed g c (name_in c) old new line
 
 -- the same of a session, which stays the same elsewhere
 abbrev pub IsAnswered : {B : Type 0} → (B → Meaning) → Command → SessionState B → SessionState B → List ℕ → Type 0
-IsAnswered meaning c old new line = (new ≡ in_standing old (standing new)) × Answers (graph_of meaning old.plant) c (standing old) (standing new) line
+IsAnswered meaning c old new line = (new ≡ in_standing old (standing new))
+    × Answers (graph_of meaning old.plant) c (standing old) (standing new) line
 
 -- a refusal of the plant as a line
 abbrev pub refusal_reply : PlantFault → Reply
@@ -281,7 +296,8 @@ abbrev pub are_taps : Wanted → Bool
 are_taps (wanted.Number least greatest) = false
 are_taps (wanted.Taps count) = true
 
--- numbers are this value, which the setting may have; or they are none that it may have, or no memory was there for the taps that they are
+-- numbers are this value, which the setting may have; or they are none that it may have, or no memory was there for the
+-- taps that they are
 abbrev pub IsValueFor : Wanted → List ℤ → Result settings.Value PlantFault → Type 0
 IsValueFor w zs (Ok v) = (value_for w zs ≡ Some (value_of v)) × (is_fit w (value_for w zs) ≡ true)
 IsValueFor w zs (Err fault.WrongSetting) = is_fit w (value_for w zs) ≡ false

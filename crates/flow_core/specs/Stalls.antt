@@ -1,4 +1,5 @@
--- What is said of a run that stalled: of the ring of blocks that wait for one another, or of the sources that wait to be fed.
+-- What is said of a run that stalled: of the ring of blocks that wait for one another, or of the sources that wait to
+-- be fed.
 use Rattle.std.specs.Prelude.{ℕ, zero, suc, List, [], ◌∷◌, ◌++◌, min, length, codes, Option, Some, None, Bool, true, false, ◌==◌, if◌then◌else◌}
 use Rattle.std.specs.List.{flat_map}
 use Rattle.std.specs.Fmt.{decimal}
@@ -15,11 +16,13 @@ stall_line text = line_text (codes "flow: stalled: " ++ text)
 
 -- block b waits for items of a writer, or for room until a reader has read, or is a source that is left open
 abbrev pub items_line : Draft → ℕ → ℕ → ℕ → List ℕ
-items_line d b port writer = stall_line (name_at d b ++ codes " waits for items of " ++ name_at d writer ++ codes " on input " ++ decimal port)
+items_line d b port writer = stall_line (name_at d b ++ codes " waits for items of " ++ name_at d writer
+    ++ codes " on input " ++ decimal port)
 
 abbrev pub room_line : Draft → ℕ → ℕ → ℕ → List ℕ
 room_line d b port reader =
-    stall_line (name_at d b ++ codes " waits for room on output " ++ decimal port ++ codes ", which " ++ name_at d reader ++ codes " has not read")
+    stall_line (name_at d b ++ codes " waits for room on output " ++ decimal port ++ codes ", which "
+    ++ name_at d reader ++ codes " has not read")
 
 abbrev pub feed_line : Draft → ℕ → List ℕ
 feed_line d b = stall_line (name_at d b ++ codes " is open: it waits to be fed")
@@ -36,7 +39,8 @@ wait_line d b (ForRoom port reader) = room_line d b port reader
 -- the blocks of a ring from b on, each the one that the last waits for, before the first comes again; so many at most
 abbrev pub ring_from : Network → Capacities → State → ℕ → ℕ → ℕ → List ℕ
 ring_from net caps st first zero b = []
-ring_from net caps st first (suc k) b = b ∷ (if next_of net caps st b == first then [] else ring_from net caps st first k (next_of net caps st b))
+ring_from net caps st first (suc k) b = b ∷ (if next_of net caps st b == first then [] else ring_from net caps st first
+    k (next_of net caps st b))
 
 -- the lowest of b and of so many blocks to which waits lead from it
 abbrev pub lowest_from : Network → Capacities → State → ℕ → ℕ → ℕ
@@ -98,7 +102,8 @@ open_text d caps st = each_block d (open_line d caps st)
 -- the waits of the lowest live block lead to a block: it is on a ring, or a source that ends them
 abbrev pub stall_at : List ℕ → Draft → Capacities → State → Option ℕ → List ℕ
 stall_at rates d caps st None = []
-stall_at rates d caps st (Some b) = if is_for_block (wait_of d.net caps st b) then ring_text d caps st (ring_at d.net caps st b) ++ rates else open_text d caps st
+stall_at rates d caps st (Some b) = if is_for_block (wait_of d.net caps st b) then ring_text d caps st
+    (ring_at d.net caps st b) ++ rates else open_text d caps st
 
 -- what is said of a run that stalled, with this text on the rates
 abbrev pub stall_text : List ℕ → Draft → Capacities → State → List ℕ

@@ -29,7 +29,8 @@ abbrev pub trace_fault : ErrorKind → StartFault
 trace_fault kind.OutOfMemory = Memory
 trace_fault _ = NoTrace
 
--- memory, a file and standard output are reported as they are of a command; the text of bad words comes from what reads them
+-- memory, a file and standard output are reported as they are of a command; the text of bad words comes from what reads
+-- them
 abbrev pub start_text : StartFault → List ℕ
 start_text NoText = line_text (codes "error: a word is no UTF-8")
 start_text BadWords = []

@@ -23,5 +23,6 @@ pub trait Answerer<H> {
         command: &Command,
     ) -> Result<Option<Vec<u8>>, AllocError>
         requires { IsAskable (command_seen command.now) }
-        ensures { IfOk result (λ line. IsAnswer answers (command_seen command.now) self.old self.new (option_map (λ l. l.items) line)) };
+        ensures { IfOk result (λ line. IsAnswer answers (command_seen command.now) self.old self.new
+            (option_map (λ l. l.items) line)) };
 }

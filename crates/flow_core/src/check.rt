@@ -19,7 +19,8 @@ use std::alloc::{AllocError, Global};
 pub fn check<O: ByteOut>(alloc: Global, file: &[u8], output: &mut O) -> Result<u8, Fault>
     requires writes { O.failed output.old < 2 ^ 64 - 1 }
     ensures does { IfOk result (Writes (IsCheck file.now) (O.contents output.old) (O.contents output.new)) }
-    ensures does_not { IfErr result (WritesNot (IsCheck file.now) (graph_in file.now) (O.contents output.old) (O.contents output.new)) }
+    ensures does_not { IfErr result (WritesNot (IsCheck file.now) (graph_in file.now) (O.contents output.old)
+        (O.contents output.new)) }
     ensures failed_writes { O.failed output.new ≡ O.failed output.old + writes_in result }
 {
     match check_file(alloc, file) {
@@ -32,7 +33,8 @@ pub fn check<O: ByteOut>(alloc: Global, file: &[u8], output: &mut O) -> Result<u
 pub fn check_feeds<O: ByteOut>(alloc: Global, file: &[u8], output: &mut O) -> Result<u8, Fault>
     requires writes { O.failed output.old < 2 ^ 64 - 1 }
     ensures does { IfOk result (Writes (IsCheckOfFeeds file.now) (O.contents output.old) (O.contents output.new)) }
-    ensures does_not { IfErr result (WritesNot (IsCheckOfFeeds file.now) (plant_in file.now) (O.contents output.old) (O.contents output.new)) }
+    ensures does_not { IfErr result (WritesNot (IsCheckOfFeeds file.now) (plant_in file.now) (O.contents output.old)
+        (O.contents output.new)) }
     ensures failed_writes { O.failed output.new ≡ O.failed output.old + writes_in result }
 {
     match check_plant(alloc, file) {

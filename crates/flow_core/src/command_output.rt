@@ -51,7 +51,8 @@ pub fn run_output(
     settled: Settled,
 ) -> Result<RunOutput, AllocError>
     requires { HasSettled (net_of meaning_of plant.graph) plant.capacities plant.state settled }
-    ensures { IfOk result (λ ran. IsEnd (opened_of plant) (option_map opened_of ran.stalled) ran.given.text.items ran.given.status) }
+    ensures { IfOk result (λ ran. IsEnd (opened_of plant) (option_map opened_of ran.stalled) ran.given.text.items
+        ran.given.status) }
 {
     let text = run_report(alloc, &plant, settled)?;
     let done = plant.all_done();
@@ -80,8 +81,10 @@ pub fn status_of(done: bool) -> u8
 /// Writes what a command gives, and returns its status.
 pub(crate) fn write_output<O: ByteOut>(output: &mut O, given: &CommandOutput) -> Result<u8, Fault>
     requires { O.failed output.old < 2 ^ 64 - 1 }
-    ensures ok { IfOk result (λ status. (status ≡ given.now.status) × Appends (O.contents output.old) (O.contents output.new) given.now.text.items) }
-    ensures err { IfErr result (λ fault. (fault ≡ Script Write) × AppendsBeginning (O.contents output.old) (O.contents output.new) given.now.text.items) }
+    ensures ok { IfOk result (λ status. (status ≡ given.now.status) × Appends (O.contents output.old)
+        (O.contents output.new) given.now.text.items) }
+    ensures err { IfErr result (λ fault. (fault ≡ Script Write) × AppendsBeginning (O.contents output.old)
+        (O.contents output.new) given.now.text.items) }
     ensures failed_writes { O.failed output.new ≡ O.failed output.old + writes_in result }
 {
     match output.write(&given.text) {
@@ -93,8 +96,10 @@ pub(crate) fn write_output<O: ByteOut>(output: &mut O, given: &CommandOutput) ->
 /// Writes what a run gives, and returns its status, with its plant if it stalled.
 pub fn write_run<O: ByteOut>(output: &mut O, ran: RunOutput) -> Result<CommandEnd, Fault>
     requires { O.failed output.old < 2 ^ 64 - 1 }
-    ensures ok { IfOk result (λ ended. (ended.status ≡ ran.given.status) × (ended.stalled ≡ ran.stalled) × Appends (O.contents output.old) (O.contents output.new) ran.given.text.items) }
-    ensures err { IfErr result (λ fault. (fault ≡ Script Write) × AppendsBeginning (O.contents output.old) (O.contents output.new) ran.given.text.items) }
+    ensures ok { IfOk result (λ ended. (ended.status ≡ ran.given.status) × (ended.stalled ≡ ran.stalled)
+        × Appends (O.contents output.old) (O.contents output.new) ran.given.text.items) }
+    ensures err { IfErr result (λ fault. (fault ≡ Script Write) × AppendsBeginning (O.contents output.old)
+        (O.contents output.new) ran.given.text.items) }
     ensures failed_writes { O.failed output.new ≡ O.failed output.old + writes_in result }
 {
     let RunOutput { given, stalled } = ran;

@@ -23,7 +23,8 @@ pub fn draw<O: ByteOut>(
 ) -> Result<u8, Fault>
     requires writes { O.failed output.old < 2 ^ 64 - 1 }
     ensures does { IfOk result (Writes (IsPicture format file.now) (O.contents output.old) (O.contents output.new)) }
-    ensures does_not { IfErr result (WritesNot (IsPicture format file.now) (graph_in file.now) (O.contents output.old) (O.contents output.new)) }
+    ensures does_not { IfErr result (WritesNot (IsPicture format file.now) (graph_in file.now) (O.contents output.old)
+        (O.contents output.new)) }
     ensures failed_writes { O.failed output.new ≡ O.failed output.old + writes_in result }
 {
     match draw_file(alloc, format, file) {

@@ -154,7 +154,8 @@ impl RawFault {
 
 // The number and the name of a fault, its place, and a line number there.
 fn placed_line(row: (u32, &'static str), place: EndPlace, line: u64) -> RefusalText<'static>
-    ensures { refusal_text result ≡ head (row.entry.0, row.entry.1.now) ++ place_text place ++ codes " " ++ decimal line }
+    ensures { refusal_text result ≡ head (row.entry.0, row.entry.1.now) ++ place_text place ++ codes " "
+        ++ decimal line }
 {
     let number = TextPart::Number(place.number() as u64);
     let word = TextPart::Text(place.word());

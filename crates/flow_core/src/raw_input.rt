@@ -40,8 +40,10 @@ pub fn feed_from<I: ByteIn>(
     requires reads { I.failed input.old < 2 ^ 64 - 1 }
     ensures same { plant.new ≡ in_state plant.old plant.new.state }
     ensures idle { is_idle plant.old.state ≡ true → is_idle plant.new.state ≡ true }
-    ensures fed { OnOk result (IsFedBy (net_of meaning_of plant.old.graph) plant.old.state plant.new.state source.0 order (I.remaining input.old) (I.remaining input.new)) }
-    ensures stops { IfErr result (StopsFeeding (net_of meaning_of plant.old.graph) plant.old.state source.0 order number (I.remaining input.old) (I.remaining input.new)) }
+    ensures fed { OnOk result (IsFedBy (net_of meaning_of plant.old.graph) plant.old.state plant.new.state source.0
+        order (I.remaining input.old) (I.remaining input.new)) }
+    ensures stops { IfErr result (StopsFeeding (net_of meaning_of plant.old.graph) plant.old.state source.0 order number
+        (I.remaining input.old) (I.remaining input.new)) }
     ensures failed_reads { I.failed input.new ≡ I.failed input.old + raw_reads result }
 {
     plant.recall();
@@ -68,7 +70,9 @@ pub fn feed_from<I: ByteIn>(
 // The type of the items that a source takes.
 fn source_type(plant: &Plant<Kind>, number: usize, source: BlockId) -> Result<ItemType, RawFault>
     ensures ok { IfOk result (λ t. (source_type_of (net_of meaning_of plant.now.graph) source.0 ≡ Ok t)) }
-    ensures refused { IfErr result (λ fault. (order : ByteOrder) (rest : Option (List ℕ)) → IsOfEnd (Input number) (IsWrong (net_of meaning_of plant.now.graph) plant.now.state source.0 order rest []) fault) }
+    ensures refused { IfErr result (λ fault. (order : ByteOrder) (rest : Option (List ℕ))
+        → IsOfEnd (Input number) (IsWrong (net_of meaning_of plant.now.graph) plant.now.state source.0 order rest [])
+        fault) }
     ensures no_read { raw_reads result ≡ 0 }
 {
     let refusal = match plant.source_type(source) {
@@ -92,8 +96,11 @@ fn put_on(
     requires { type_of items.now ≡ given_type (net_of meaning_of plant.old.graph) source.0 }
     ensures same { plant.new ≡ in_state plant.old plant.new.state }
     ensures idle { is_idle plant.old.state ≡ true → is_idle plant.new.state ≡ true }
-    ensures fed { OnOk result ((total : ℕ) × (feed_of (net_of meaning_of plant.old.graph) plant.old.state source.0 (type_of items.now) (numbers_of items.now) [] ≡ (machine.Fed total, plant.new.state))) }
-    ensures refused { IfErr result (IsOfEnd (Input number) (IsRefusedFor (feed_of (net_of meaning_of plant.old.graph) plant.old.state source.0 (type_of items.now) (numbers_of items.now) []).0)) }
+    ensures fed { OnOk result ((total : ℕ) × (feed_of (net_of meaning_of plant.old.graph) plant.old.state source.0
+        (type_of items.now) (numbers_of items.now) [] ≡ (machine.Fed total, plant.new.state))) }
+    ensures refused { IfErr result (IsOfEnd (Input number) (IsRefusedFor
+        (feed_of (net_of meaning_of plant.old.graph) plant.old.state source.0 (type_of items.now) (numbers_of items.now)
+        []).0)) }
     ensures no_read { raw_reads result ≡ 0 }
 {
     let refusal = match plant.feed_from(source, items, &[]) {

@@ -32,8 +32,10 @@ pub fn write_items<O: ByteOut>(
     output: &mut O,
 ) -> Result<(), RawFault>
     requires writes { O.failed output.old < 2 ^ 64 - 1 }
-    ensures written { OnOk result (Appends (O.contents output.old) (O.contents output.new) (held_bytes (net_of meaning_of plant.now.graph) plant.now.state order sink.0)) }
-    ensures stops { IfErr result (StopsWriting (net_of meaning_of plant.now.graph) sink.0 place (O.contents output.old) (O.contents output.new) (held_bytes (net_of meaning_of plant.now.graph) plant.now.state order sink.0)) }
+    ensures written { OnOk result (Appends (O.contents output.old) (O.contents output.new)
+        (held_bytes (net_of meaning_of plant.now.graph) plant.now.state order sink.0)) }
+    ensures stops { IfErr result (StopsWriting (net_of meaning_of plant.now.graph) sink.0 place (O.contents output.old)
+        (O.contents output.new) (held_bytes (net_of meaning_of plant.now.graph) plant.now.state order sink.0)) }
     ensures failed_writes { O.failed output.new ≡ O.failed output.old + raw_writes result }
 {
     test_sink(plant, place, sink)?;
@@ -63,8 +65,10 @@ pub fn write_tags<O: ByteOut>(
     output: &mut O,
 ) -> Result<(), RawFault>
     requires writes { O.failed output.old < 2 ^ 64 - 1 }
-    ensures written { OnOk result (Appends (O.contents output.old) (O.contents output.new) (held_lines (net_of meaning_of plant.now.graph) plant.now.state sink.0)) }
-    ensures stops { IfErr result (StopsWriting (net_of meaning_of plant.now.graph) sink.0 place (O.contents output.old) (O.contents output.new) (held_lines (net_of meaning_of plant.now.graph) plant.now.state sink.0)) }
+    ensures written { OnOk result (Appends (O.contents output.old) (O.contents output.new)
+        (held_lines (net_of meaning_of plant.now.graph) plant.now.state sink.0)) }
+    ensures stops { IfErr result (StopsWriting (net_of meaning_of plant.now.graph) sink.0 place (O.contents output.old)
+        (O.contents output.new) (held_lines (net_of meaning_of plant.now.graph) plant.now.state sink.0)) }
     ensures failed_writes { O.failed output.new ≡ O.failed output.old + raw_writes result }
 {
     plant.recall();

@@ -20,7 +20,8 @@ use refusal_codes::{RefusalText, TextPart};
 /// write does not matter to the command.
 pub fn report<E: ByteOut>(fault: &Fault, name: &str, errors: &mut E)
     requires { E.failed errors.old < 2 ^ 64 - 1 }
-    ensures { Tries (stream (E.contents errors.old) (E.failed errors.old)) (stream (E.contents errors.new) (E.failed errors.new)) (fault_line name.now fault.now) }
+    ensures { Tries (stream (E.contents errors.old) (E.failed errors.old))
+        (stream (E.contents errors.new) (E.failed errors.new)) (fault_line name.now fault.now) }
 {
     write_line(fault.refusal_text(), fault.found_in(name), errors);
 }
@@ -29,7 +30,8 @@ pub fn report<E: ByteOut>(fault: &Fault, name: &str, errors: &mut E)
 /// failed write does not matter to the run.
 pub fn report_raw<E: ByteOut>(fault: &RawFault, name: &str, errors: &mut E)
     requires { E.failed errors.old < 2 ^ 64 - 1 }
-    ensures { Tries (stream (E.contents errors.old) (E.failed errors.old)) (stream (E.contents errors.new) (E.failed errors.new)) (raw_fault_line name.now fault.now) }
+    ensures { Tries (stream (E.contents errors.old) (E.failed errors.old))
+        (stream (E.contents errors.new) (E.failed errors.new)) (raw_fault_line name.now fault.now) }
 {
     write_line(fault.refusal_text(), name, errors);
 }
@@ -38,7 +40,8 @@ pub fn report_raw<E: ByteOut>(fault: &RawFault, name: &str, errors: &mut E)
 /// failed write does not matter to the command.
 pub fn write_line<E: ByteOut>(text: RefusalText<'_>, name: &str, errors: &mut E)
     requires { E.failed errors.old < 2 ^ 64 - 1 }
-    ensures { Tries (stream (E.contents errors.old) (E.failed errors.old)) (stream (E.contents errors.new) (E.failed errors.new)) (stop_line (refusal_text text.entry) name.now) }
+    ensures { Tries (stream (E.contents errors.old) (E.failed errors.old))
+        (stream (E.contents errors.new) (E.failed errors.new)) (stop_line (refusal_text text.entry) name.now) }
 {
     match errors.write(b"flow: refused ") {
         Ok(()) => write_parts(errors, text.parts.as_slice(), name),
@@ -49,7 +52,9 @@ pub fn write_line<E: ByteOut>(text: RefusalText<'_>, name: &str, errors: &mut E)
 // Writes the parts of a line and its end, up to the first write that fails.
 fn write_parts<E: ByteOut>(errors: &mut E, parts: &[TextPart<'_>], name: &str)
     requires { E.failed errors.old < 2 ^ 64 - 1 }
-    ensures { Tries (stream (E.contents errors.old) (E.failed errors.old)) (stream (E.contents errors.new) (E.failed errors.new)) (flat_map part_text parts.now ++ line_text (found_in name.now)) }
+    ensures { Tries (stream (E.contents errors.old) (E.failed errors.old))
+        (stream (E.contents errors.new) (E.failed errors.new)) (flat_map part_text parts.now
+        ++ line_text (found_in name.now)) }
 {
     for part in parts {
         let Ok(()) = write_part(errors, *part) else {
@@ -62,7 +67,8 @@ fn write_parts<E: ByteOut>(errors: &mut E, parts: &[TextPart<'_>], name: &str)
 // Writes the end of a line, after the name if there is one.
 fn write_end<E: ByteOut>(errors: &mut E, name: &str)
     requires { E.failed errors.old < 2 ^ 64 - 1 }
-    ensures { Tries (stream (E.contents errors.old) (E.failed errors.old)) (stream (E.contents errors.new) (E.failed errors.new)) (line_text (found_in name.now)) }
+    ensures { Tries (stream (E.contents errors.old) (E.failed errors.old))
+        (stream (E.contents errors.new) (E.failed errors.new)) (line_text (found_in name.now)) }
 {
     if name.is_empty() {
         let _ = errors.write(b"\n");
@@ -76,7 +82,8 @@ fn write_end<E: ByteOut>(errors: &mut E, name: &str)
 // Writes a name at the end of a line.
 fn write_name<E: ByteOut>(errors: &mut E, name: &str)
     requires { E.failed errors.old < 2 ^ 64 - 1 }
-    ensures { Tries (stream (E.contents errors.old) (E.failed errors.old)) (stream (E.contents errors.new) (E.failed errors.new)) (line_text name.now) }
+    ensures { Tries (stream (E.contents errors.old) (E.failed errors.old))
+        (stream (E.contents errors.new) (E.failed errors.new)) (line_text name.now) }
 {
     if let Ok(()) = errors.write(name.as_bytes()) {
         let _ = errors.write(b"\n");
@@ -86,7 +93,8 @@ fn write_name<E: ByteOut>(errors: &mut E, name: &str)
 fn write_part<E: ByteOut>(errors: &mut E, part: TextPart<'_>) -> Result<(), Broken>
     requires { E.failed errors.old < 2 ^ 64 - 1 }
     ensures ok { OnOk result (Appends (E.contents errors.old) (E.contents errors.new) (part_text part.entry)) }
-    ensures err { OnErr result (AppendsBeginning (E.contents errors.old) (E.contents errors.new) (part_text part.entry)) }
+    ensures err { OnErr result (AppendsBeginning (E.contents errors.old) (E.contents errors.new)
+        (part_text part.entry)) }
     ensures counted { E.failed errors.new ≡ (if is_ok result then E.failed errors.old else E.failed errors.old + 1) }
 {
     match part {

@@ -70,7 +70,8 @@ fn add_firings(
     firings: &[u32],
 ) -> Result<(), AllocError>
     requires { length firings.now ≡ length graph.now.blocks }
-    ensures { OnOk result (text.new.items ≡ text.old.items ++ each_block (drafted graph.now) (firings_line (drafted graph.now) firings.now)) }
+    ensures { OnOk result (text.new.items ≡ text.old.items ++ each_block (drafted graph.now)
+        (firings_line (drafted graph.now) firings.now)) }
 {
     for block in 0..graph.len() {
         let name = graph.name(BlockId(block as u32));
@@ -104,7 +105,8 @@ pub fn stream_report(
     plant: &StreamingPlant<Kind>,
     settled: Settled,
 ) -> Result<Vec<u8>, AllocError>
-    ensures { IfOk result (λ text. text.items ≡ streamed_text (drafted plant.now.plant.graph) plant.now.plant.state plant.now.kept.sinks ++ line_text (settled_text settled)) }
+    ensures { IfOk result (λ text. text.items ≡ streamed_text (drafted plant.now.plant.graph) plant.now.plant.state
+        plant.now.kept.sinks ++ line_text (settled_text settled)) }
 {
     let mut text = Vec::new(alloc);
     for block in 0..plant.graph().len() {
@@ -122,7 +124,8 @@ fn add_rest(
     block: BlockId,
 ) -> Result<(), AllocError>
     requires { block.0 < length plant.now.plant.graph.blocks }
-    ensures { OnOk result (text.new.items ≡ text.old.items ++ rest_line (drafted plant.now.plant.graph) plant.now.plant.state plant.now.kept.sinks block.0) }
+    ensures { OnOk result (text.new.items ≡ text.old.items ++ rest_line (drafted plant.now.plant.graph)
+        plant.now.plant.state plant.now.kept.sinks block.0) }
 {
     match plant.peek(alloc, block, u64::MAX) {
         Ok(piece) => {
@@ -153,7 +156,8 @@ fn add_sink(
     block: BlockId,
 ) -> Result<(), AllocError>
     requires { block.0 < length plant.now.graph.blocks }
-    ensures { OnOk result (text.new.items ≡ text.old.items ++ sink_line (drafted plant.now.graph) plant.now.state block.0) }
+    ensures { OnOk result (text.new.items ≡ text.old.items ++ sink_line (drafted plant.now.graph) plant.now.state
+        block.0) }
 {
     match plant.read(alloc, block, 0, u64::MAX) {
         Ok(piece) => {
@@ -175,7 +179,8 @@ fn add_held(
     piece: &Piece,
 ) -> Result<(), AllocError>
     ensures small { held < 2 ^ 64 }
-    ensures shown { OnOk result (text.new.items ≡ text.old.items ++ line_text (sink_text name.now held (numbers_of piece.now.items) (tags_seen piece.now.tags.items))) }
+    ensures shown { OnOk result (text.new.items ≡ text.old.items ++ line_text
+        (sink_text name.now held (numbers_of piece.now.items) (tags_seen piece.now.tags.items))) }
 {
     let sink = Report::Sink {
         name,

@@ -30,7 +30,8 @@ pub fn run_alone<O: ByteOut, W: Watch>(
 ) -> Result<u8, Fault>
     requires writes { O.failed output.old < 2 ^ 64 - 1 }
     ensures does { IfOk result (Writes (IsRunAlone file.now) (O.contents output.old) (O.contents output.new)) }
-    ensures does_not { IfErr result (WritesNot (IsRunAlone file.now) (plant_in file.now) (O.contents output.old) (O.contents output.new)) }
+    ensures does_not { IfErr result (WritesNot (IsRunAlone file.now) (plant_in file.now) (O.contents output.old)
+        (O.contents output.new)) }
     ensures failed_writes { O.failed output.new ≡ O.failed output.old + writes_in result }
 {
     match run_on_one(alloc, file, output, watch) {
@@ -47,8 +48,10 @@ pub fn run_on_one<O: ByteOut, W: Watch>(
     watch: &mut W,
 ) -> Result<CommandEnd, Fault>
     requires writes { O.failed output.old < 2 ^ 64 - 1 }
-    ensures does { IfOk result (λ ended. Writes (IsRunAloneTo file.now (option_map opened_of ended.stalled)) (O.contents output.old) (O.contents output.new) ended.status) }
-    ensures does_not { IfErr result (WritesNot (IsRunAlone file.now) (plant_in file.now) (O.contents output.old) (O.contents output.new)) }
+    ensures does { IfOk result (λ ended. Writes (IsRunAloneTo file.now (option_map opened_of ended.stalled))
+        (O.contents output.old) (O.contents output.new) ended.status) }
+    ensures does_not { IfErr result (WritesNot (IsRunAlone file.now) (plant_in file.now) (O.contents output.old)
+        (O.contents output.new)) }
     ensures failed_writes { O.failed output.new ≡ O.failed output.old + writes_in result }
 {
     match run_file_alone(alloc, file, watch) {
@@ -59,7 +62,8 @@ pub fn run_on_one<O: ByteOut, W: Watch>(
 
 // Closes the sources of a file's plant, runs it on one thread until it comes to rest, and reports what it holds then.
 fn run_file_alone<W: Watch>(alloc: Global, file: &[u8], watch: &mut W) -> Result<RunOutput, Fault>
-    ensures ok { IfOk result (λ ran. IsRunAloneTo file.now (option_map opened_of ran.stalled) ran.given.text.items ran.given.status) }
+    ensures ok { IfOk result (λ ran. IsRunAloneTo file.now (option_map opened_of ran.stalled) ran.given.text.items
+        ran.given.status) }
     ensures refused { IfErr result (Refuses (plant_in file.now)) }
 {
     let plant = open_plant(alloc, file)?;

@@ -108,8 +108,10 @@ pub fn run_script<I: ByteIn, O: ByteOut>(
 ) -> Result<u8, Fault>
     requires reads { I.failed input.old < 2 ^ 64 - 1 }
     requires writes { O.failed output.old < 2 ^ 64 - 1 }
-    ensures does { IfOk result (λ status. IsScript file.now (I.remaining input.old) (I.remaining input.new) (O.contents output.old) (O.contents output.new) × (status ≡ 0)) }
-    ensures does_not { IfErr result (StopsScript file.now (I.remaining input.old) (I.remaining input.new) (O.contents output.old) (O.contents output.new)) }
+    ensures does { IfOk result (λ status. IsScript file.now (I.remaining input.old) (I.remaining input.new)
+        (O.contents output.old) (O.contents output.new) × (status ≡ 0)) }
+    ensures does_not { IfErr result (StopsScript file.now (I.remaining input.old) (I.remaining input.new)
+        (O.contents output.old) (O.contents output.new)) }
     ensures failed_reads { I.failed input.new ≡ I.failed input.old + reads_in result }
     ensures failed_writes { O.failed output.new ≡ O.failed output.old + writes_in result }
 {
@@ -135,9 +137,12 @@ pub fn script<B: Block, I: ByteIn, O: ByteOut>(
 ) -> Result<Plant<B>, ScriptFault>
     requires reads { I.failed input.old < 2 ^ 64 - 1 }
     requires writes { O.failed output.old < 2 ^ 64 - 1 }
-    ensures ends { IfOk result (λ p. RunEndsIn (graph_of B.meaning plant) (standing_of plant (none_kept plant)) p.state (I.remaining input.old) (I.remaining input.new) (O.contents output.old) (O.contents output.new)) }
+    ensures ends { IfOk result (λ p. RunEndsIn (graph_of B.meaning plant) (standing_of plant (none_kept plant)) p.state
+        (I.remaining input.old) (I.remaining input.new) (O.contents output.old) (O.contents output.new)) }
     ensures same { IfOk result (λ p. p ≡ in_state plant p.state) }
-    ensures breaks { IfErr result (λ fault. Breaks (Answers (graph_of B.meaning plant)) (standing_of plant (none_kept plant)) (I.remaining input.old) (I.remaining input.new) (O.contents output.old) (O.contents output.new) fault) }
+    ensures breaks { IfErr result (λ fault. Breaks (Answers (graph_of B.meaning plant))
+        (standing_of plant (none_kept plant)) (I.remaining input.old) (I.remaining input.new) (O.contents output.old)
+        (O.contents output.new) fault) }
     ensures failed_reads { I.failed input.new ≡ I.failed input.old + failed_reads result }
     ensures failed_writes { O.failed output.new ≡ O.failed output.old + failed_writes result }
 {
@@ -159,8 +164,10 @@ pub fn answer_all<H, A: Answerer<H>, I: ByteIn, O: ByteOut>(
     requires none { lines.old ≡ record { rest = []; line = []; taken = 0 } }
     requires reads { I.failed input.old < 2 ^ 64 - 1 }
     requires writes { O.failed output.old < 2 ^ 64 - 1 }
-    ensures ends { OnOk result (Ends A.answers session.old session.new (I.remaining input.old) (I.remaining input.new) (O.contents output.old) (O.contents output.new)) }
-    ensures breaks { IfErr result (λ fault. Breaks A.answers session.old (I.remaining input.old) (I.remaining input.new) (O.contents output.old) (O.contents output.new) fault) }
+    ensures ends { OnOk result (Ends A.answers session.old session.new (I.remaining input.old) (I.remaining input.new)
+        (O.contents output.old) (O.contents output.new)) }
+    ensures breaks { IfErr result (λ fault. Breaks A.answers session.old (I.remaining input.old) (I.remaining input.new)
+        (O.contents output.old) (O.contents output.new) fault) }
     ensures failed_reads { I.failed input.new ≡ I.failed input.old + failed_reads result }
     ensures failed_writes { O.failed output.new ≡ O.failed output.old + failed_writes result }
 {
@@ -189,9 +196,11 @@ fn answer_lines<H, A: Answerer<H>, O: ByteOut>(
 ) -> Result<(), ScriptFault>
     requires low { lines.old.taken ≤ most_lines }
     requires writes { O.failed output.old < 2 ^ 64 - 1 }
-    ensures went { OnOk result (Went A.answers session.old session.new (O.contents output.old) (O.contents output.new) lines.old lines.new) }
+    ensures went { OnOk result (Went A.answers session.old session.new (O.contents output.old) (O.contents output.new)
+        lines.old lines.new) }
     ensures unfinished { OnOk result (IsUnfinished lines.new.rest) }
-    ensures stops { IfErr result (λ fault. Stops A.answers session.old (O.contents output.old) (O.contents output.new) (said_of lines.old) lines.old.taken fault) }
+    ensures stops { IfErr result (λ fault. Stops A.answers session.old (O.contents output.old) (O.contents output.new)
+        (said_of lines.old) lines.old.taken fault) }
     ensures failed_reads { failed_reads result ≡ 0 }
     ensures failed_writes { O.failed output.new ≡ O.failed output.old + failed_writes result }
 {
@@ -214,8 +223,10 @@ fn answer_next<H, A: Answerer<H>, O: ByteOut>(
 ) -> Result<bool, ScriptFault>
     requires low { lines.old.taken ≤ most_lines }
     requires writes { O.failed output.old < 2 ^ 64 - 1 }
-    ensures proceeds { IfOk result (λ came. Proceeds A.answers session.old session.new (O.contents output.old) (O.contents output.new) lines.old lines.new came) }
-    ensures stops { IfErr result (λ fault. Stops A.answers session.old (O.contents output.old) (O.contents output.new) (said_of lines.old) lines.old.taken fault) }
+    ensures proceeds { IfOk result (λ came. Proceeds A.answers session.old session.new (O.contents output.old)
+        (O.contents output.new) lines.old lines.new came) }
+    ensures stops { IfErr result (λ fault. Stops A.answers session.old (O.contents output.old) (O.contents output.new)
+        (said_of lines.old) lines.old.taken fault) }
     ensures failed_reads { failed_reads result ≡ 0 }
     ensures failed_writes { O.failed output.new ≡ O.failed output.old + failed_writes result }
 {
@@ -244,8 +255,10 @@ fn answer_last<H, A: Answerer<H>, O: ByteOut>(
     requires low { lines.now.taken ≤ most_lines }
     requires unfinished { IsUnfinished lines.now.rest }
     requires writes { O.failed output.old < 2 ^ 64 - 1 }
-    ensures answered { OnOk result (Answered A.answers session.old session.new (O.contents output.old) (O.contents output.new) (said_of lines.now [])) }
-    ensures stops { IfErr result (λ fault. Stops A.answers session.old (O.contents output.old) (O.contents output.new) (λ more. said_of lines.now []) lines.now.taken fault) }
+    ensures answered { OnOk result (Answered A.answers session.old session.new (O.contents output.old)
+        (O.contents output.new) (said_of lines.now [])) }
+    ensures stops { IfErr result (λ fault. Stops A.answers session.old (O.contents output.old) (O.contents output.new)
+        (λ more. said_of lines.now []) lines.now.taken fault) }
     ensures failed_reads { failed_reads result ≡ 0 }
     ensures failed_writes { O.failed output.new ≡ O.failed output.old + failed_writes result }
 {
@@ -270,8 +283,10 @@ fn answer_command<H, A: Answerer<H>, O: ByteOut>(
 ) -> Result<(), ScriptFault>
     requires askable { IsAskable (command_seen command.now) }
     requires writes { O.failed output.old < 2 ^ 64 - 1 }
-    ensures answered { OnOk result (Answered A.answers session.old session.new (O.contents output.old) (O.contents output.new) (Says (command_seen command.now) ∷ [])) }
-    ensures unwritten { IfErr result (λ fault. Unwritten A.answers (command_seen command.now) number session.old session.new (O.contents output.old) (O.contents output.new) fault) }
+    ensures answered { OnOk result (Answered A.answers session.old session.new (O.contents output.old)
+        (O.contents output.new) (Says (command_seen command.now) ∷ [])) }
+    ensures unwritten { IfErr result (λ fault. Unwritten A.answers (command_seen command.now) number session.old
+        session.new (O.contents output.old) (O.contents output.new) fault) }
     ensures failed_reads { failed_reads result ≡ 0 }
     ensures failed_writes { O.failed output.new ≡ O.failed output.old + failed_writes result }
 {

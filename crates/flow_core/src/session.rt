@@ -91,7 +91,8 @@ impl<B: Block> Session<B> {
     fn line_for(&mut self, alloc: Global, command: &Command) -> Result<Vec<u8>, AllocError>
         requires { IsAskable (command_seen command.now) }
         ensures same { self.new ≡ in_standing self.old (standing self.new) }
-        ensures answers { IfOk result (λ line. Answers (graph_of B.meaning self.old.plant) (command_seen command.now) (standing self.old) (standing self.new) line.items) }
+        ensures answers { IfOk result (λ line. Answers (graph_of B.meaning self.old.plant) (command_seen command.now)
+            (standing self.old) (standing self.new) line.items) }
     {
         let Some(name) = name_of(command) else {
             return answer_all(alloc, &mut self.plant, &self.jobs, command);
@@ -161,7 +162,8 @@ fn answer_all<B: Block>(
     ensures same { plant.new ≡ in_state plant.old plant.new.state }
     ensures jobs { KeepsJobs (net_of B.meaning plant.new.graph) plant.new.graph plant.new.state jobs.now }
     ensures answers { let old = standing_of plant.old (kept_in jobs.now) in
-        IfOk result (λ line. AnswersOn (graph_of B.meaning plant.old) 0 (command_seen command.now) old (standing_of plant.new (kept_in jobs.now)) line.items) }
+        IfOk result (λ line. AnswersOn (graph_of B.meaning plant.old) 0 (command_seen command.now) old
+        (standing_of plant.new (kept_in jobs.now)) line.items) }
 {
     match command {
         Command::Quiet => Reply::Quiet(plant.quiet()).to_line(alloc),
@@ -192,7 +194,8 @@ fn answer_on<B: Block>(
     ensures same { plant.new ≡ in_state plant.old plant.new.state }
     ensures jobs { KeepsJobs (net_of B.meaning plant.new.graph) plant.new.graph plant.new.state jobs.new }
     ensures answers { let old = standing_of plant.old (kept_in jobs.old) in
-        IfOk result (λ line. AnswersOn (graph_of B.meaning plant.old) block.0 (command_seen command.now) old (standing_of plant.new (kept_in jobs.new)) line.items) }
+        IfOk result (λ line. AnswersOn (graph_of B.meaning plant.old) block.0 (command_seen command.now) old
+        (standing_of plant.new (kept_in jobs.new)) line.items) }
 {
     plant.recall();
     match command {

@@ -42,7 +42,8 @@ pub fn note_stall<E: ByteOut>(
     errors: &mut E,
 )
     requires { E.failed errors.old < 2 ^ 64 - 1 }
-    ensures { Remarks verbosity (option_map opened_of stalled.now) (stream (E.contents errors.old) (E.failed errors.old)) (stream (E.contents errors.new) (E.failed errors.new)) }
+    ensures { Remarks verbosity (option_map opened_of stalled.now) (stream (E.contents errors.old)
+        (E.failed errors.old)) (stream (E.contents errors.new) (E.failed errors.new)) }
 {
     match (verbosity, stalled) {
         (Verbosity::WithNotes, Some(plant)) => explain_stall(alloc, plant, errors),
@@ -53,7 +54,8 @@ pub fn note_stall<E: ByteOut>(
 /// Writes what the blocks of a stalled plant wait for, up to the first write that fails.
 pub fn explain_stall<P: StalledPlant, E: ByteOut>(alloc: Global, plant: &P, errors: &mut E)
     requires { E.failed errors.old < 2 ^ 64 - 1 }
-    ensures { Explains (opened_of (P.seen plant.now)) (stream (E.contents errors.old) (E.failed errors.old)) (stream (E.contents errors.new) (E.failed errors.new)) }
+    ensures { Explains (opened_of (P.seen plant.now)) (stream (E.contents errors.old) (E.failed errors.old))
+        (stream (E.contents errors.new) (E.failed errors.new)) }
 {
     let rates = rates_line(alloc, plant.graph());
     let _ = tell_stall(errors, plant, rates);
@@ -76,7 +78,9 @@ fn tell_stall<P: StalledPlant, E: ByteOut>(
     rates: &[u8],
 ) -> Result<(), Broken>
     requires { E.failed errors.old < 2 ^ 64 - 1 }
-    ensures { Puts result (stream (E.contents errors.old) (E.failed errors.old)) (stream (E.contents errors.new) (E.failed errors.new)) (stall_text rates.now (drafted (P.seen plant.now).graph) (P.seen plant.now).capacities (P.seen plant.now).state) }
+    ensures { Puts result (stream (E.contents errors.old) (E.failed errors.old))
+        (stream (E.contents errors.new) (E.failed errors.new)) (stall_text rates.now (drafted (P.seen plant.now).graph)
+        (P.seen plant.now).capacities (P.seen plant.now).state) }
 {
     let Some(block) = plant.ring() else {
         return Ok(());
@@ -98,8 +102,11 @@ fn tell_ring<P: StalledPlant, E: ByteOut>(
 ) -> Result<(), Broken>
     requires failed { E.failed errors.old < 2 ^ 64 - 1 }
     requires inside { block.0 < length (P.seen plant.now).graph.blocks }
-    ensures { let net = net_of meaning_of (P.seen plant.now).graph in let caps = (P.seen plant.now).capacities in let st = (P.seen plant.now).state in
-        Puts result (stream (E.contents errors.old) (E.failed errors.old)) (stream (E.contents errors.new) (E.failed errors.new)) (ring_text (drafted (P.seen plant.now).graph) caps st (ring_at net caps st block.0) ++ rates.now) }
+    ensures { let net = net_of meaning_of (P.seen plant.now).graph in let caps = (P.seen plant.now).capacities in let
+        st = (P.seen plant.now).state in
+        Puts result (stream (E.contents errors.old) (E.failed errors.old))
+        (stream (E.contents errors.new) (E.failed errors.new)) (ring_text (drafted (P.seen plant.now).graph) caps st
+        (ring_at net caps st block.0) ++ rates.now) }
 {
     let first = lowest(plant, block);
     tell_waits(errors, plant, first)?;
@@ -110,7 +117,8 @@ fn tell_ring<P: StalledPlant, E: ByteOut>(
 // The lowest among a block and those that waits lead to from it, in as many steps as there are blocks.
 fn lowest<P: StalledPlant>(plant: &P, block: BlockId) -> BlockId
     requires { block.0 < length (P.seen plant.now).graph.blocks }
-    ensures value { let net = net_of meaning_of (P.seen plant.now).graph in result.0 ≡ lowest_from net (P.seen plant.now).capacities (P.seen plant.now).state (length net.nodes) block.0 }
+    ensures value { let net = net_of meaning_of (P.seen plant.now).graph in result.0
+        ≡ lowest_from net (P.seen plant.now).capacities (P.seen plant.now).state (length net.nodes) block.0 }
     ensures inside { result.0 < length (P.seen plant.now).graph.blocks }
 {
     let mut lowest = block.0;
@@ -130,8 +138,11 @@ fn tell_waits<P: StalledPlant, E: ByteOut>(
 ) -> Result<(), Broken>
     requires failed { E.failed errors.old < 2 ^ 64 - 1 }
     requires inside { first.0 < length (P.seen plant.now).graph.blocks }
-    ensures { let net = net_of meaning_of (P.seen plant.now).graph in let caps = (P.seen plant.now).capacities in let st = (P.seen plant.now).state in
-        Puts result (stream (E.contents errors.old) (E.failed errors.old)) (stream (E.contents errors.new) (E.failed errors.new)) (waits_text (drafted (P.seen plant.now).graph) caps st (ring_from net caps st first.0 (length net.nodes) first.0)) }
+    ensures { let net = net_of meaning_of (P.seen plant.now).graph in let caps = (P.seen plant.now).capacities in let
+        st = (P.seen plant.now).state in
+        Puts result (stream (E.contents errors.old) (E.failed errors.old))
+        (stream (E.contents errors.new) (E.failed errors.new)) (waits_text (drafted (P.seen plant.now).graph) caps st
+        (ring_from net caps st first.0 (length net.nodes) first.0)) }
 {
     let mut block = first;
     for _turn in 0..plant.graph().len() {
@@ -147,8 +158,10 @@ fn tell_waits<P: StalledPlant, E: ByteOut>(
 // The first block of a ring that waits for room, from this block on.
 fn full<P: StalledPlant>(plant: &P, first: BlockId) -> Option<BlockId>
     requires { first.0 < length (P.seen plant.now).graph.blocks }
-    ensures value { let net = net_of meaning_of (P.seen plant.now).graph in let caps = (P.seen plant.now).capacities in let st = (P.seen plant.now).state in
-        option_map (λ block. block.0) result ≡ full_in net caps st (ring_from net caps st first.0 (length net.nodes) first.0) }
+    ensures value { let net = net_of meaning_of (P.seen plant.now).graph in let caps = (P.seen plant.now).capacities in
+        let st = (P.seen plant.now).state in
+        option_map (λ block. block.0) result ≡ full_in net caps st (ring_from net caps st first.0 (length net.nodes)
+        first.0) }
     ensures inside { IfSome result (λ block. block.0 < length (P.seen plant.now).graph.blocks) }
 {
     let mut block = first;
@@ -167,7 +180,8 @@ fn full<P: StalledPlant>(plant: &P, first: BlockId) -> Option<BlockId>
 // Whether a block waits for room.
 fn is_full<P: StalledPlant>(plant: &P, block: BlockId) -> bool
     requires { block.0 < length (P.seen plant.now).graph.blocks }
-    ensures { result ≡ is_for_room (wait_of (net_of meaning_of (P.seen plant.now).graph) (P.seen plant.now).capacities (P.seen plant.now).state block.0) }
+    ensures { result ≡ is_for_room (wait_of (net_of meaning_of (P.seen plant.now).graph) (P.seen plant.now).capacities
+        (P.seen plant.now).state block.0) }
 {
     match plant.need(block) {
         BlockNeed::Room { .. } => true,
@@ -187,7 +201,9 @@ fn tell_opener<P: StalledPlant, E: ByteOut>(
 ) -> Result<(), Broken>
     requires failed { E.failed errors.old < 2 ^ 64 - 1 }
     requires inside { IfSome full (λ block. block.0 < length (P.seen plant.now).graph.blocks) }
-    ensures { Puts result (stream (E.contents errors.old) (E.failed errors.old)) (stream (E.contents errors.new) (E.failed errors.new)) (opener_line (drafted (P.seen plant.now).graph) (option_map (λ block. block.0) full)) }
+    ensures { Puts result (stream (E.contents errors.old) (E.failed errors.old))
+        (stream (E.contents errors.new) (E.failed errors.new)) (opener_line (drafted (P.seen plant.now).graph)
+        (option_map (λ block. block.0) full)) }
 {
     let Some(block) = full else {
         return Ok(());
@@ -206,7 +222,9 @@ fn tell_opener<P: StalledPlant, E: ByteOut>(
 // Writes that a source is open, for each source that waits to be fed.
 fn tell_open<P: StalledPlant, E: ByteOut>(errors: &mut E, plant: &P) -> Result<(), Broken>
     requires { E.failed errors.old < 2 ^ 64 - 1 }
-    ensures { Puts result (stream (E.contents errors.old) (E.failed errors.old)) (stream (E.contents errors.new) (E.failed errors.new)) (open_text (drafted (P.seen plant.now).graph) (P.seen plant.now).capacities (P.seen plant.now).state) }
+    ensures { Puts result (stream (E.contents errors.old) (E.failed errors.old))
+        (stream (E.contents errors.new) (E.failed errors.new)) (open_text (drafted (P.seen plant.now).graph)
+        (P.seen plant.now).capacities (P.seen plant.now).state) }
 {
     for block in 0..plant.graph().len() {
         tell_if_open(errors, plant, BlockId(block as u32))?;
@@ -222,7 +240,9 @@ fn tell_if_open<P: StalledPlant, E: ByteOut>(
 ) -> Result<(), Broken>
     requires failed { E.failed errors.old < 2 ^ 64 - 1 }
     requires inside { block.0 < length (P.seen plant.now).graph.blocks }
-    ensures { Puts result (stream (E.contents errors.old) (E.failed errors.old)) (stream (E.contents errors.new) (E.failed errors.new)) (open_line (drafted (P.seen plant.now).graph) (P.seen plant.now).capacities (P.seen plant.now).state block.0) }
+    ensures { Puts result (stream (E.contents errors.old) (E.failed errors.old))
+        (stream (E.contents errors.new) (E.failed errors.new)) (open_line (drafted (P.seen plant.now).graph)
+        (P.seen plant.now).capacities (P.seen plant.now).state block.0) }
 {
     match plant.need(block) {
         BlockNeed::Feed => put(
@@ -249,7 +269,10 @@ fn tell_wait<P: StalledPlant, E: ByteOut>(
 ) -> Result<(), Broken>
     requires failed { E.failed errors.old < 2 ^ 64 - 1 }
     requires inside { block.0 < length (P.seen plant.now).graph.blocks }
-    ensures { Puts result (stream (E.contents errors.old) (E.failed errors.old)) (stream (E.contents errors.new) (E.failed errors.new)) (wait_line (drafted (P.seen plant.now).graph) block.0 (wait_of (net_of meaning_of (P.seen plant.now).graph) (P.seen plant.now).capacities (P.seen plant.now).state block.0)) }
+    ensures { Puts result (stream (E.contents errors.old) (E.failed errors.old))
+        (stream (E.contents errors.new) (E.failed errors.new)) (wait_line (drafted (P.seen plant.now).graph) block.0
+        (wait_of (net_of meaning_of (P.seen plant.now).graph) (P.seen plant.now).capacities (P.seen plant.now).state
+        block.0)) }
 {
     let graph = plant.graph();
     let name = graph.name(block);
@@ -285,7 +308,8 @@ fn tell_wait<P: StalledPlant, E: ByteOut>(
 // The block that a block waits for, or the block itself if it waits for none.
 fn next<P: StalledPlant>(plant: &P, block: BlockId) -> BlockId
     requires { block.0 < length (P.seen plant.now).graph.blocks }
-    ensures value { result.0 ≡ next_of (net_of meaning_of (P.seen plant.now).graph) (P.seen plant.now).capacities (P.seen plant.now).state block.0 }
+    ensures value { result.0 ≡ next_of (net_of meaning_of (P.seen plant.now).graph) (P.seen plant.now).capacities
+        (P.seen plant.now).state block.0 }
     ensures inside { result.0 < length (P.seen plant.now).graph.blocks }
 {
     match plant.need(block) {
@@ -298,7 +322,8 @@ fn next<P: StalledPlant>(plant: &P, block: BlockId) -> BlockId
 // Writes pieces one after another, up to the first write that fails.
 fn put<E: ByteOut>(errors: &mut E, pieces: &[&[u8]]) -> Result<(), Broken>
     requires { E.failed errors.old < 2 ^ 64 - 1 }
-    ensures { Puts result (stream (E.contents errors.old) (E.failed errors.old)) (stream (E.contents errors.new) (E.failed errors.new)) (flat_map (λ piece. piece.now) pieces.now) }
+    ensures { Puts result (stream (E.contents errors.old) (E.failed errors.old))
+        (stream (E.contents errors.new) (E.failed errors.new)) (flat_map (λ piece. piece.now) pieces.now) }
 {
     for piece in pieces {
         errors.write(piece)?;

@@ -37,7 +37,8 @@ value_request b at (Some v) = Makes (machine.Set b at v)
 
 abbrev pub set_request : ℕ → Option ℕ → List ℤ → Option Wanted → Request
 set_request b at zs None = Refuses machine.no_setting
-set_request b at zs (Some w) = if is_fit w (value_for w zs) then value_request b at (value_for w zs) else Refuses machine.wrong_setting
+set_request b at zs (Some w) = if is_fit w (value_for w zs) then value_request b at (value_for w zs) else Refuses
+    machine.wrong_setting
 
 -- of a block that is found by its name, or none is
 abbrev pub found_at : (ℕ → Request) → Option ℕ → Request
@@ -49,10 +50,12 @@ found names name request = found_at request (position (bytes_eq name) names)
 
 -- items that a source may be fed, or why there are none for these numbers
 abbrev pub AreFor : Network → ℕ → List ℤ → Result Items PlantFault → Type 0
-AreFor net b zs (Ok items) = (ms : List Mark) → feed_request net b zs ms ≡ Makes (machine.Feed b (type_of items) (numbers_of items) ms)
+AreFor net b zs (Ok items) = (ms : List Mark) → feed_request net b zs ms
+    ≡ Makes (machine.Feed b (type_of items) (numbers_of items) ms)
 AreFor net b zs (Err fault.NotSource) = (ms : List Mark) → feed_request net b zs ms ≡ Refuses machine.not_source
 AreFor net b zs (Err fault.ItemRange) = (ms : List Mark) → feed_request net b zs ms ≡ Refuses machine.item_range
-AreFor net b zs (Err fault.Memory) = (ms : List Mark) → feed_request net b zs ms ≡ Makes (machine.Feed b (given_type net b) zs ms)
+AreFor net b zs (Err fault.Memory) = (ms : List Mark) → feed_request net b zs ms
+    ≡ Makes (machine.Feed b (given_type net b) zs ms)
 AreFor net b zs (Err _) = ⊥
 
 -- the reply that is given: the one that there is, or that memory ran out
@@ -60,17 +63,23 @@ abbrev pub told_reply : Option Reply → Reply
 told_reply None = no_memory
 told_reply (Some reply) = reply
 
--- a refusal is given, or the call is made: it joins the desk's log with the reply that is given. Or memory ran out, and no call was made
+-- a refusal is given, or the call is made: it joins the desk's log with the reply that is given. Or memory ran out, and
+-- no call was made
 abbrev pub Follows : {B : Type 0} → Request → DeskState B → DeskState B → List ℕ → Type 0
 Follows (Refuses code) old new line = (new ≡ old) × (line ≡ reply_line (Refused code))
-Follows (Makes call) old new line = (reply : Option Reply) × IsLogged (Asks call) old new reply × (line ≡ reply_line (told_reply reply))
+Follows (Makes call) old new line = (reply : Option Reply) × IsLogged (Asks call) old new reply
+    × (line ≡ reply_line (told_reply reply))
 
 -- what a command is answered at a desk. No claim is made there, and nothing is asked of the plant as a whole
 abbrev pub AtDesk : {B : Type 0} → (B → Meaning) → Command → DeskState B → DeskState B → List ℕ → Type 0
-AtDesk meaning (Feed name xs ms) old new line = Follows (found old.graph.names name (λ b. feed_request (net_of meaning old.graph) b xs ms)) old new line
-AtDesk meaning (Close name) old new line = Follows (found old.graph.names name (λ b. Makes (machine.Close b))) old new line
-AtDesk meaning (Set name at zs) old new line = Follows (found old.graph.names name (λ b. set_request b at zs (node_at (net_of meaning old.graph) b).meaning.setting)) old new line
-AtDesk meaning (Read name from max) old new line = Follows (found old.graph.names name (λ b. Makes (machine.Read b from max))) old new line
+AtDesk meaning (Feed name xs ms) old new line = Follows (found old.graph.names name
+    (λ b. feed_request (net_of meaning old.graph) b xs ms)) old new line
+AtDesk meaning (Close name) old new line = Follows (found old.graph.names name (λ b. Makes (machine.Close b))) old new
+    line
+AtDesk meaning (Set name at zs) old new line = Follows (found old.graph.names name
+    (λ b. set_request b at zs (node_at (net_of meaning old.graph) b).meaning.setting)) old new line
+AtDesk meaning (Read name from max) old new line = Follows (found old.graph.names name
+    (λ b. Makes (machine.Read b from max))) old new line
 AtDesk meaning (Claim name max) old new line = ⊥
 AtDesk meaning (Commit name) old new line = ⊥
 AtDesk meaning (Abandon name) old new line = ⊥

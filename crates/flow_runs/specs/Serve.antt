@@ -34,8 +34,8 @@ abbrev pub Fails : {A : Type 0} → Result A Refusal → ServeFault → Type 0
 Fails r (Run fault) = IsOk r
 Fails r (Command fault) = Refuses r fault
 
--- a run of a file in threads: its plant with all sources closed came to rest, with what it was handed, and is reported as it was then. Which block fired
--- when is nowhere said
+-- a run of a file in threads: its plant with all sources closed came to rest, with what it was handed, and is reported
+-- as it was then. Which block fired when is nowhere said
 pub record IsRun (file text : List ℕ) (status : ℕ) : Type 0 where
   pub plant : Opened
   pub opens : plant_in file ≡ Ok plant
@@ -50,8 +50,10 @@ pub record IsRun (file text : List ℕ) (status : ℕ) : Type 0 where
 abbrev pub IsRunTo : List ℕ → Option Opened → List ℕ → ℕ → Type 0
 IsRunTo file stalled text status = (run : IsRun file text status) × (stalled ≡ stalled_in run.plant run.last)
 
--- nothing was written, or the write of such a text failed and left a beginning of it; or a run in threads came to no end
-abbrev pub RunsNot : {A : Type 0} → (List ℕ → ℕ → Type 0) → Result A Refusal → Option (List ℕ) → Option (List ℕ) → ServeFault → Type 0
+-- nothing was written, or the write of such a text failed and left a beginning of it; or a run in threads came to no
+-- end
+abbrev pub RunsNot : {A : Type 0} → (List ℕ → ℕ → Type 0) → Result A Refusal → Option (List ℕ) → Option (List ℕ)
+    → ServeFault → Type 0
 RunsNot IsDone r out out' (Run fault) = IsOk r × (out' ≡ out)
 RunsNot IsDone r out out' (Command fault) = WritesNot IsDone r out out' fault
 
@@ -61,8 +63,9 @@ pub record AnswersLines (graph : Flowgraph Kind) (log : List Noted) (input out :
   pub replied : Option (List ℕ)
   pub ends : Ends (AtDesk meaning_of) (live_desk graph) (with_log (live_desk graph) log) input left out replied
 
--- a run of a file in threads with its sources left open, while each line of an input was answered: its plant came where a history leads in which each call
--- is its caller's own, and those at the desk are those that the lines ask for, with the replies that were written, to rest, and the report of it then
+-- a run of a file in threads with its sources left open, while each line of an input was answered: its plant came where
+-- a history leads in which each call is its caller's own, and those at the desk are those that the lines ask for, with
+-- the replies that were written, to rest, and the report of it then
 pub record IsLive (file : List ℕ) (input out : Option (List ℕ)) (text : List ℕ) (status : ℕ) : Type 0 where
   pub plant : PlantState Kind
   pub opens : plant_in file ≡ Ok (opened_of plant)
@@ -78,40 +81,54 @@ pub record IsLive (file : List ℕ) (input out : Option (List ℕ)) (text : List
   pub well : status ≡ (if is_all_done last then 0 else 3)
 
 abbrev pub IsLiveTo : List ℕ → Option (List ℕ) → Option (List ℕ) → Option Opened → List ℕ → ℕ → Type 0
-IsLiveTo file input out stalled text status = (run : IsLive file input out text status) × (stalled ≡ stalled_in (opened_of run.plant) run.last)
+IsLiveTo file input out stalled text status = (run : IsLive file input out text status)
+    × (stalled ≡ stalled_in (opened_of run.plant) run.last)
 
 -- lines at a desk stopped by a fault, or the run came to no end
 abbrev pub StopsLines : Flowgraph Kind → Option (List ℕ) → Option (List ℕ) → ServeFault → Type 0
 StopsLines graph input out (Command (File fault)) = ⊥
-StopsLines graph input out (Command (Script fault)) = (left : Option (List ℕ)) × (replied : Option (List ℕ)) × Breaks (AtDesk meaning_of) (live_desk graph) input left out replied fault
+StopsLines graph input out (Command (Script fault)) = (left : Option (List ℕ)) × (replied : Option (List ℕ))
+    × Breaks (AtDesk meaning_of) (live_desk graph) input left out replied fault
 StopsLines graph input out (Run fault) = ⊤
 
 -- each line was answered, and memory ran out for the report, or its write failed and left a beginning of it
-abbrev pub StopsBehind : List ℕ → Flowgraph Kind → Option (List ℕ) → Option (List ℕ) → Option (List ℕ) → ScriptFault → Type 0
+abbrev pub StopsBehind : List ℕ → Flowgraph Kind → Option (List ℕ) → Option (List ℕ) → Option (List ℕ) → ScriptFault
+    → Type 0
 StopsBehind file graph input out out' (BadLine n) = ⊥
 StopsBehind file graph input out out' Read = ⊥
 StopsBehind file graph input out out' Write =
-    (between : Option (List ℕ)) × (stalled : Option Opened) × (text : List ℕ) × (status : ℕ) × IsLiveTo file input out stalled text status × AppendsBeginning between out' text
+    (between : Option (List ℕ)) × (stalled : Option Opened) × (text : List ℕ) × (status : ℕ)
+    × IsLiveTo file input out stalled text status × AppendsBeginning between out' text
 StopsBehind file graph input out out' Memory = (log : List Noted) × AnswersLines graph log input out
 
--- a file was refused, before anything was read or written; or its lines stopped by a fault, or all were answered and their report was not written. Where
--- threads came to no end, what came of its streams is not known
-abbrev pub StopsLive : List ℕ → Option (List ℕ) → Option (List ℕ) → Option (List ℕ) → Option (List ℕ) → ServeFault → Type 0
-StopsLive file input input' out out' (Command (File fault)) = IsRefused (plant_in file) fault × (input' ≡ input) × (out' ≡ out)
+-- a file was refused, before anything was read or written; or its lines stopped by a fault, or all were answered and
+-- their report was not written. Where threads came to no end, what came of its streams is not known
+abbrev pub StopsLive : List ℕ → Option (List ℕ) → Option (List ℕ) → Option (List ℕ) → Option (List ℕ) → ServeFault
+    → Type 0
+StopsLive file input input' out out' (Command (File fault)) = IsRefused (plant_in file) fault × (input' ≡ input)
+    × (out' ≡ out)
 StopsLive file input input' out out' (Command (Script fault)) =
     (plant : PlantState Kind) × (plant_in file ≡ Ok (opened_of plant))
     × (StopsLines plant.graph input out (Command (Script fault)) ⊎ StopsBehind file plant.graph input out out' fault)
 StopsLive file input input' out out' (Run fault) = IsOk (plant_in file)
 
 -- a command was done, with a status, and a run may have stalled; only a script and a live run read their input
-abbrev pub Does : Action → List ℕ → Option (List ℕ) → Option (List ℕ) → Option (List ℕ) → Option (List ℕ) → ℕ → Option Opened → Type 0
-Does action.Check file input input' out out' status stalled = (input' ≡ input) × Writes (IsCheck file) out out' status × (stalled ≡ None)
-Does action.CheckFeeds file input input' out out' status stalled = (input' ≡ input) × Writes (IsCheckOfFeeds file) out out' status × (stalled ≡ None)
-Does (action.Draw format) file input input' out out' status stalled = (input' ≡ input) × Writes (IsPicture format file) out out' status × (stalled ≡ None)
-Does (action.Run threading) file input input' out out' status stalled = (input' ≡ input) × Writes (IsRunTo file stalled) out out' status
-Does action.RunAlone file input input' out out' status stalled = (input' ≡ input) × Writes (IsRunAloneTo file stalled) out out' status
-Does action.Live file input input' out out' status stalled = (between : Option (List ℕ)) × Writes (IsLiveTo file input out stalled) between out' status
-Does action.Script file input input' out out' status stalled = IsScript file input input' out out' × (status ≡ 0) × (stalled ≡ None)
+abbrev pub Does : Action → List ℕ → Option (List ℕ) → Option (List ℕ) → Option (List ℕ) → Option (List ℕ) → ℕ
+    → Option Opened → Type 0
+Does action.Check file input input' out out' status stalled = (input' ≡ input) × Writes (IsCheck file) out out' status
+    × (stalled ≡ None)
+Does action.CheckFeeds file input input' out out' status stalled = (input' ≡ input)
+    × Writes (IsCheckOfFeeds file) out out' status × (stalled ≡ None)
+Does (action.Draw format) file input input' out out' status stalled = (input' ≡ input)
+    × Writes (IsPicture format file) out out' status × (stalled ≡ None)
+Does (action.Run threading) file input input' out out' status stalled = (input' ≡ input)
+    × Writes (IsRunTo file stalled) out out' status
+Does action.RunAlone file input input' out out' status stalled = (input' ≡ input)
+    × Writes (IsRunAloneTo file stalled) out out' status
+Does action.Live file input input' out out' status stalled = (between : Option (List ℕ))
+    × Writes (IsLiveTo file input out stalled) between out' status
+Does action.Script file input input' out out' status stalled = IsScript file input input' out out' × (status ≡ 0)
+    × (stalled ≡ None)
 
 -- no thread is to blame for a fault, of which this is so
 abbrev pub OfCommand : (Fault → Type 0) → ServeFault → Type 0
@@ -119,12 +136,18 @@ OfCommand Is (Command fault) = Is fault
 OfCommand Is (Run fault) = ⊥
 
 -- a command was not done, for a fault
-abbrev pub DoesNot : Action → List ℕ → Option (List ℕ) → Option (List ℕ) → Option (List ℕ) → Option (List ℕ) → ServeFault → Type 0
-DoesNot action.Check file input input' out out' fault = (input' ≡ input) × OfCommand (WritesNot (IsCheck file) (graph_in file) out out') fault
-DoesNot action.CheckFeeds file input input' out out' fault = (input' ≡ input) × OfCommand (WritesNot (IsCheckOfFeeds file) (plant_in file) out out') fault
-DoesNot (action.Draw format) file input input' out out' fault = (input' ≡ input) × OfCommand (WritesNot (IsPicture format file) (graph_in file) out out') fault
-DoesNot (action.Run threading) file input input' out out' fault = (input' ≡ input) × RunsNot (IsRun file) (plant_in file) out out' fault
-DoesNot action.RunAlone file input input' out out' fault = (input' ≡ input) × OfCommand (WritesNot (IsRunAlone file) (plant_in file) out out') fault
+abbrev pub DoesNot : Action → List ℕ → Option (List ℕ) → Option (List ℕ) → Option (List ℕ) → Option (List ℕ)
+    → ServeFault → Type 0
+DoesNot action.Check file input input' out out' fault = (input' ≡ input)
+    × OfCommand (WritesNot (IsCheck file) (graph_in file) out out') fault
+DoesNot action.CheckFeeds file input input' out out' fault = (input' ≡ input)
+    × OfCommand (WritesNot (IsCheckOfFeeds file) (plant_in file) out out') fault
+DoesNot (action.Draw format) file input input' out out' fault = (input' ≡ input)
+    × OfCommand (WritesNot (IsPicture format file) (graph_in file) out out') fault
+DoesNot (action.Run threading) file input input' out out' fault = (input' ≡ input)
+    × RunsNot (IsRun file) (plant_in file) out out' fault
+DoesNot action.RunAlone file input input' out out' fault = (input' ≡ input)
+    × OfCommand (WritesNot (IsRunAlone file) (plant_in file) out out') fault
 DoesNot action.Live file input input' out out' fault = StopsLive file input input' out out' fault
 DoesNot action.Script file input input' out out' fault = OfCommand (StopsScript file input input' out out') fault
 
@@ -153,7 +176,8 @@ abbrev pub writes_in : {X : Type 0} → Result X ServeFault → ℕ
 writes_in (Ok x) = 0
 writes_in (Err fault) = writes_failed_by fault
 
--- a count of failed calls grew by so many; of those that a live run makes nothing is said, since a thread of its own makes them
+-- a count of failed calls grew by so many; of those that a live run makes nothing is said, since a thread of its own
+-- makes them
 abbrev pub Grows : Action → ℕ → ℕ → ℕ → Type 0
 Grows action.Check old new n = new ≡ old + n
 Grows action.CheckFeeds old new n = new ≡ old + n
@@ -163,12 +187,16 @@ Grows action.RunAlone old new n = new ≡ old + n
 Grows action.Live old new n = ⊤
 Grows action.Script old new n = new ≡ old + n
 
--- a command was done, and no fault is reported, but why a run stalled may be explained; or it was not, the fault is reported, and the status is the one
--- that it brings; the graph file has that name
-pub data Serves (verbosity : Verbosity) (c : Action) (name file : List ℕ) (input input' output output' errors errors' : Stream) : ℕ → Type 0 where
-  Well : (status : ℕ) (stalled : Option Opened) → Does c file input.bytes input'.bytes output.bytes output'.bytes status stalled →
-      Grows c input.failed input'.failed 0 → Grows c output.failed output'.failed 0 → Remarks verbosity stalled errors errors' →
+-- a command was done, and no fault is reported, but why a run stalled may be explained; or it was not, the fault is
+-- reported, and the status is the one that it brings; the graph file has that name
+pub data Serves (verbosity : Verbosity) (c : Action) (name file : List ℕ)
+    (input input' output output' errors errors' : Stream) : ℕ → Type 0 where
+  Well : (status : ℕ) (stalled : Option Opened) → Does c file input.bytes input'.bytes output.bytes output'.bytes status
+      stalled →
+      Grows c input.failed input'.failed 0 → Grows c output.failed output'.failed 0
+      → Remarks verbosity stalled errors errors' →
       Serves verbosity c name file input input' output output' errors errors' status
   Badly : (fault : ServeFault) → DoesNot c file input.bytes input'.bytes output.bytes output'.bytes fault →
-      Grows c input.failed input'.failed (reads_failed_by fault) → Grows c output.failed output'.failed (writes_failed_by fault) → Tries errors errors' (serve_line name fault) →
+      Grows c input.failed input'.failed (reads_failed_by fault) → Grows c output.failed output'.failed
+      (writes_failed_by fault) → Tries errors errors' (serve_line name fault) →
       Serves verbosity c name file input input' output output' errors errors' (serve_status fault)

@@ -10,8 +10,10 @@ use Rattle.flow_core.specs.declared.script.ScriptFault.{ScriptFault}
 use Rattle.flow_runs.specs.declared.fault.ServeFault.{ServeFault}
 use Rattle.flow_runs.specs.declared.fault.ServeFault.TheVariants.{Command, Run}
 
--- a plant came where a history of calls leads from its opening, of which these were made at the one desk, and none at another
-pub record HasCome {B : Type 0} (meaning : B → Meaning) (eq : B → B → Bool) (opening : OpeningState B) (log : List Noted) (p : PlantState B) : Type 0 where
+-- a plant came where a history of calls leads from its opening, of which these were made at the one desk, and none at
+-- another
+pub record HasCome {B : Type 0} (meaning : B → Meaning) (eq : B → B → Bool) (opening : OpeningState B)
+    (log : List Noted) (p : PlantState B) : Type 0 where
   pub history : List Noted
   pub logs : AreLogs (log ∷ []) history
   pub reached : HasReached meaning eq opening history p

@@ -43,7 +43,8 @@ impl ServeFault {
     /// failed write does not matter.
     pub fn report<E: ByteOut>(&self, name: &str, errors: &mut E)
         requires { E.failed errors.old < 2 ^ 64 - 1 }
-        ensures { Tries (stream (E.contents errors.old) (E.failed errors.old)) (stream (E.contents errors.new) (E.failed errors.new)) (serve_line name.now self.now) }
+        ensures { Tries (stream (E.contents errors.old) (E.failed errors.old))
+            (stream (E.contents errors.new) (E.failed errors.new)) (serve_line name.now self.now) }
     {
         match self {
             ServeFault::Command(fault) => report(fault, name, errors),

@@ -54,8 +54,11 @@ pub(crate) fn run_live<
 ) -> Result<CommandEnd, ServeFault>
     requires reads { I.failed input.old < 2 ^ 64 - 1 }
     requires writes { O.failed output.old < 2 ^ 64 - 1 }
-    ensures does { IfOk result (λ ended. (between : Option (List ℕ)) × Writes (IsLiveTo file.now (I.remaining input.old) (O.contents output.old) (option_map opened_of ended.stalled)) between (O.contents output.new) ended.status) }
-    ensures does_not { IfErr result (StopsLive file.now (I.remaining input.old) (I.remaining input.new) (O.contents output.old) (O.contents output.new)) }
+    ensures does { IfOk result (λ ended. (between : Option (List ℕ))
+        × Writes (IsLiveTo file.now (I.remaining input.old) (O.contents output.old)
+        (option_map opened_of ended.stalled)) between (O.contents output.new) ended.status) }
+    ensures does_not { IfErr result (StopsLive file.now (I.remaining input.old) (I.remaining input.new)
+        (O.contents output.old) (O.contents output.new)) }
 {
     let plant = match open_plant(alloc, file) {
         Ok(plant) => plant,
@@ -85,7 +88,8 @@ fn live_plant<R: Threads + Wait + Clock + Sync, I: ByteIn + Send, O: ByteOut + S
     requires idle { is_idle plant.state ≡ true }
     requires reads { I.failed input.old < 2 ^ 64 - 1 }
     requires writes { O.failed output.old < 2 ^ 64 - 1 }
-    ensures came { IfOk result (λ r. (log : List Noted) × HasCome meaning_of ⟦<Kind as PartialEq>⟧.eq (opening_of plant) log r.0 × AnswersLines plant.graph log (I.remaining input.old) (O.contents output.old)) }
+    ensures came { IfOk result (λ r. (log : List Noted) × HasCome meaning_of ⟦<Kind as PartialEq>⟧.eq (opening_of plant)
+        log r.0 × AnswersLines plant.graph log (I.remaining input.old) (O.contents output.old)) }
     ensures settled { IfOk result (λ r. HasSettled (net_of meaning_of r.0.graph) r.0.capacities r.0.state r.1) }
     ensures stopped { IfErr result (StopsLines plant.graph (I.remaining input.old) (O.contents output.old)) }
 {
@@ -104,7 +108,8 @@ fn one_caller<'a, I: ByteIn, O: ByteOut>(
     output: &'a mut O,
 ) -> Result<Vec<LineCaller<'a, I, O>>, AllocError>
     ensures one { IfOk result (λ callers. vec_len callers ≡ 1) }
-    ensures of { IfOk result (λ callers. (caller : _) → ((get_or callers.items 0 caller).input.now ≡ input.entry.now) × ((get_or callers.items 0 caller).output.now ≡ output.entry.now)) }
+    ensures of { IfOk result (λ callers. (caller : _) → ((get_or callers.items 0 caller).input.now ≡ input.entry.now)
+        × ((get_or callers.items 0 caller).output.now ≡ output.entry.now)) }
 {
     let mut callers = Vec::with_capacity(alloc, 1)?;
     callers.push_reserved(LineCaller {
@@ -120,8 +125,10 @@ fn came_to_rest<I: ByteIn, O: ByteOut>(
     finished: Finished<Kind, LineCaller<'_, I, O>>,
 ) -> Result<(Plant<Kind>, Settled), ServeFault>
     requires { vec_len finished.callers ≡ 1 }
-    ensures rested { IfOk result (λ r. (o : OpeningState Kind) (history : List Noted) → LiveRunEndsIn meaning_of ⟦<Kind as PartialEq>⟧.eq o history finished.entry.outcome →
-        HasReached meaning_of ⟦<Kind as PartialEq>⟧.eq o history r.0 × HasSettled (net_of meaning_of r.0.graph) r.0.capacities r.0.state r.1) }
+    ensures rested { IfOk result (λ r. (o : OpeningState Kind) (history : List Noted)
+        → LiveRunEndsIn meaning_of ⟦<Kind as PartialEq>⟧.eq o history finished.entry.outcome →
+        HasReached meaning_of ⟦<Kind as PartialEq>⟧.eq o history r.0 × HasSettled (net_of meaning_of r.0.graph)
+        r.0.capacities r.0.state r.1) }
     ensures ended { (caller : _) → IsEndOf (get_or finished.entry.callers.items 0 caller).ended result }
 {
     let Finished {
@@ -159,8 +166,10 @@ fn stopped_by(fault: ScriptFault, outcome: &Outcome<Kind>) -> ServeFault
 
 // The plant of a run, if nobody asked for its end.
 fn rested(outcome: Outcome<Kind>) -> Result<(Plant<Kind>, Settled), ServeFault>
-    ensures rested { IfOk result (λ r. (o : OpeningState Kind) (history : List Noted) → LiveRunEndsIn meaning_of ⟦<Kind as PartialEq>⟧.eq o history outcome →
-        HasReached meaning_of ⟦<Kind as PartialEq>⟧.eq o history r.0 × HasSettled (net_of meaning_of r.0.graph) r.0.capacities r.0.state r.1) }
+    ensures rested { IfOk result (λ r. (o : OpeningState Kind) (history : List Noted)
+        → LiveRunEndsIn meaning_of ⟦<Kind as PartialEq>⟧.eq o history outcome →
+        HasReached meaning_of ⟦<Kind as PartialEq>⟧.eq o history r.0 × HasSettled (net_of meaning_of r.0.graph)
+        r.0.capacities r.0.state r.1) }
     ensures ended { IsEndOf (Ok tt) result }
 {
     match outcome {

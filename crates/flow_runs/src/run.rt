@@ -34,8 +34,10 @@ pub(crate) fn run<
     watch: &mut W,
 ) -> Result<CommandEnd, ServeFault>
     requires writes { O.failed output.old < 2 ^ 64 - 1 }
-    ensures does { IfOk result (λ ended. Writes (IsRunTo file.now (option_map opened_of ended.stalled)) (O.contents output.old) (O.contents output.new) ended.status) }
-    ensures does_not { IfErr result (RunsNot (IsRun file.now) (plant_in file.now) (O.contents output.old) (O.contents output.new)) }
+    ensures does { IfOk result (λ ended. Writes (IsRunTo file.now (option_map opened_of ended.stalled))
+        (O.contents output.old) (O.contents output.new) ended.status) }
+    ensures does_not { IfErr result (RunsNot (IsRun file.now) (plant_in file.now) (O.contents output.old)
+        (O.contents output.new)) }
     ensures failed_writes { O.failed output.new ≡ O.failed output.old + writes_in result }
 {
     match run_file(rt, alloc, threading, file, gate, watch) {
@@ -57,7 +59,8 @@ fn run_file<
     gate: Option<Arc<G, Global>>,
     watch: &mut W,
 ) -> Result<RunOutput, ServeFault>
-    ensures ok { IfOk result (λ ran. IsRunTo file.now (option_map opened_of ran.stalled) ran.given.text.items ran.given.status) }
+    ensures ok { IfOk result (λ ran. IsRunTo file.now (option_map opened_of ran.stalled) ran.given.text.items
+        ran.given.status) }
     ensures failed { IfErr result (Fails (plant_in file.now)) }
 {
     let plant = open_plant(alloc, file)?;

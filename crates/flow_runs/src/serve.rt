@@ -74,7 +74,10 @@ pub fn serve<
     requires reads { I.failed input.old < 2 ^ 64 - 1 }
     requires writes { O.failed output.old < 2 ^ 64 - 1 }
     requires reports { E.failed errors.old < 2 ^ 64 - 1 }
-    ensures { Serves verbosity action name.now file.now (stream (I.remaining input.old) (I.failed input.old)) (stream (I.remaining input.new) (I.failed input.new)) (stream (O.contents output.old) (O.failed output.old)) (stream (O.contents output.new) (O.failed output.new)) (stream (E.contents errors.old) (E.failed errors.old)) (stream (E.contents errors.new) (E.failed errors.new)) result }
+    ensures { Serves verbosity action name.now file.now (stream (I.remaining input.old) (I.failed input.old))
+        (stream (I.remaining input.new) (I.failed input.new)) (stream (O.contents output.old) (O.failed output.old))
+        (stream (O.contents output.new) (O.failed output.new)) (stream (E.contents errors.old) (E.failed errors.old))
+        (stream (E.contents errors.new) (E.failed errors.new)) result }
 {
     match obey(rt, alloc, action, file, input, output, gate, watch) {
         Ok(ended) => {
@@ -108,8 +111,10 @@ fn obey<
 ) -> Result<CommandEnd, ServeFault>
     requires reads { I.failed input.old < 2 ^ 64 - 1 }
     requires writes { O.failed output.old < 2 ^ 64 - 1 }
-    ensures does { IfOk result (λ ended. Does action file.now (I.remaining input.old) (I.remaining input.new) (O.contents output.old) (O.contents output.new) ended.status (option_map opened_of ended.stalled)) }
-    ensures does_not { IfErr result (DoesNot action file.now (I.remaining input.old) (I.remaining input.new) (O.contents output.old) (O.contents output.new)) }
+    ensures does { IfOk result (λ ended. Does action file.now (I.remaining input.old) (I.remaining input.new)
+        (O.contents output.old) (O.contents output.new) ended.status (option_map opened_of ended.stalled)) }
+    ensures does_not { IfErr result (DoesNot action file.now (I.remaining input.old) (I.remaining input.new)
+        (O.contents output.old) (O.contents output.new)) }
     ensures failed_reads { Grows action (I.failed input.old) (I.failed input.new) (reads_in result) }
     ensures failed_writes { Grows action (O.failed output.old) (O.failed output.new) (writes_in result) }
 {

@@ -34,9 +34,11 @@ pub(crate) fn run_plant<
     watch: &mut W,
 ) -> Result<(Plant<Kind>, Settled), RunFault<Kind>>
     requires { is_idle plant.state ≡ true }
-    ensures came_back { IfOk result (λ r. HasReturned meaning_of ⟦<Kind as PartialEq>⟧.eq (handed_of (with_all_closed meaning_of plant)) r.0) }
+    ensures came_back { IfOk result (λ r. HasReturned meaning_of ⟦<Kind as PartialEq>⟧.eq
+        (handed_of (with_all_closed meaning_of plant)) r.0) }
     ensures settled { IfOk result (λ r. HasSettled (net_of meaning_of r.0.graph) r.0.capacities r.0.state r.1) }
-    ensures fails { IfErr result (GivesBack meaning_of ⟦<Kind as PartialEq>⟧.eq (handed_of (with_all_closed meaning_of plant))) }
+    ensures fails { IfErr result (GivesBack meaning_of ⟦<Kind as PartialEq>⟧.eq
+        (handed_of (with_all_closed meaning_of plant))) }
 {
     let options = RunOptions {
         threading,

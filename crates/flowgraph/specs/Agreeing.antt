@@ -22,8 +22,11 @@ abbrev pub entries_agree : {B : Type 0} → (B → B → Bool) → Entry B → E
 entries_agree eq d e = eq d.block e.block && options_agree d.options e.options
 
 abbrev pub connections_agree : Connection → Connection → Bool
-connections_agree c d = c.from.0 == d.from.0 && (c.out_port == d.out_port && (c.to.0 == d.to.0 && c.in_port == d.in_port))
+connections_agree c d = c.from.0 == d.from.0 && (c.out_port == d.out_port &&
+    (c.to.0 == d.to.0 && c.in_port == d.in_port))
 
--- two graphs have the same names, blocks that are equal by a test, the same options and the same connections, all in one order
+-- two graphs have the same names, blocks that are equal by a test, the same options and the same connections, all in
+-- one order
 abbrev pub graphs_agree : {B : Type 0} → (B → B → Bool) → Flowgraph B → Flowgraph B → Bool
-graphs_agree eq g h = pointwise bytes_eq g.names h.names && pointwise (entries_agree eq) g.blocks h.blocks && pointwise connections_agree g.connections h.connections
+graphs_agree eq g h = pointwise bytes_eq g.names h.names && pointwise (entries_agree eq) g.blocks h.blocks && pointwise
+    connections_agree g.connections h.connections

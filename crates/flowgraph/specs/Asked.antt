@@ -20,4 +20,5 @@ pub record IsAsked (n : Node) (a : Asked) : Type 0 where
 -- so it is for each block
 pub record AreAsked {B : Type 0} (meaning : B → Meaning) (blocks : List (Entry B)) (all : List Asked) : Type 0 where
   pub count : length all ≡ length blocks
-  pub are : (b : ℕ) (e : Entry B) (a : Asked) → slice_get blocks b ≡ Some e → slice_get all b ≡ Some a → IsAsked (node_of meaning e) a
+  pub are : (b : ℕ) (e : Entry B) (a : Asked) → slice_get blocks b ≡ Some e → slice_get all b ≡ Some a
+      → IsAsked (node_of meaning e) a

@@ -19,7 +19,12 @@ graph_of names blocks connections = record { names = names; blocks = blocks; con
 
 -- a block with its options as a node of a network
 abbrev pub node_of : {B : Type 0} → (B → Meaning) → Entry B → Node
-node_of meaning e = record { meaning = meaning e.block; policy = e.options.policy; multiple = e.options.multiple; capacity = e.options.capacity }
+node_of meaning e = record {
+  meaning = meaning e.block;
+  policy = e.options.policy;
+  multiple = e.options.multiple;
+  capacity = e.options.capacity;
+}
 
 abbrev pub connection_of : Connection → model.Connection
 connection_of c = record { from = c.from.0; out_port = c.out_port; to = c.to.0; in_port = c.in_port }

@@ -11,4 +11,5 @@ pub record IsOrderOf (blocks : ℕ) (order : List BlockId) : Type 0 where
 -- the same, of the blocks that have their place
 pub record IsMade (order : Order) : Type 0 where
   pub within : All (λ b. b.0 < length order.placed.items) order.blocks.items
-  pub placed : (block : ℕ) → slice_index_or order.placed.items block false ≡ true → Any (λ b. b.0 ≡ block) order.blocks.items
+  pub placed : (block : ℕ) → slice_index_or order.placed.items block false ≡ true
+      → Any (λ b. b.0 ≡ block) order.blocks.items

@@ -15,4 +15,5 @@ port_faults net =
 
 -- the gap of a block with these ports
 abbrev pub gap_in : ℕ → Ports → Ports → Option GraphFault
-gap_in b inputs outputs = first_fault (option_map (PortGap b In) inputs.gap ∷ option_map (PortGap b Out) outputs.gap ∷ [])
+gap_in b inputs outputs = first_fault (option_map (PortGap b In) inputs.gap ∷ option_map (PortGap b Out)
+    outputs.gap ∷ [])

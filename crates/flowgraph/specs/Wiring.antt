@@ -11,14 +11,17 @@ use Rattle.flowgraph.specs.Flowgraph.{connection_of}
 
 -- an input is the reader of its number behind the output that it is connected to
 abbrev pub IsItsReader : Network → Input → Type 0
-IsItsReader net i = slice_get (readers_of net i.connection.from.0 i.connection.out_port) i.reader ≡ Some (connection_of i.connection)
+IsItsReader net i = slice_get (readers_of net i.connection.from.0 i.connection.out_port) i.reader
+    ≡ Some (connection_of i.connection)
 
 -- the connections to inputs, as the model has them
 abbrev pub writers_in : List Input → List model.Connection
 writers_in is = map (λ i. connection_of i.connection) is
 
--- a row for each block's inputs, the number of each block's used outputs, and a row of readers for each port that an output may have
-pub record IsWired (net : Network) (inputs : List (List Input)) (outputs : List ℕ) (readers : List (List Connection)) : Type 0 where
+-- a row for each block's inputs, the number of each block's used outputs, and a row of readers for each port that an
+-- output may have
+pub record IsWired (net : Network) (inputs : List (List Input)) (outputs : List ℕ) (readers : List (List Connection)) :
+    Type 0 where
   pub writers : map writers_in inputs ≡ map (writers_of net) (below (length net.nodes))
   pub readers_known : All (All (IsItsReader net)) inputs
   pub used : outputs ≡ map (used_outputs net) (below (length net.nodes))

@@ -56,7 +56,8 @@ fn keep_of<B: Block>(alloc: Global, entry: &Entry<B>) -> Result<Asked, AllocErro
 
 // The paces of so many inputs.
 fn paces<B: Block>(alloc: Global, block: &B, inputs: usize) -> Result<Vec<Pace>, AllocError>
-    ensures { IfOk result (λ paces. (p : ℕ) (pace : Pace) → slice_get paces.items p ≡ Some pace → HasPace (B.meaning block.now) p pace) }
+    ensures { IfOk result (λ paces. (p : ℕ) (pace : Pace) → slice_get paces.items p ≡ Some pace
+        → HasPace (B.meaning block.now) p pace) }
 {
     let mut paces = Vec::with_capacity(alloc, inputs)?;
     for input in 0..inputs {

@@ -28,9 +28,12 @@ pub fn by_port(
 ) -> Result<ByPort, AllocError>
     requires few { blocks ≤ 256 }
     requires within { AreWithin blocks connections.now }
-    ensures readers { IfOk result (λ all. AreByPort blocks Side.Out connections.now (map (λ row. row.items) all.readers.items)) }
-    ensures inputs { IfOk result (λ all. AreByPort blocks Side.In connections.now (map (map (λ i. i.connection)) (map (λ row. row.items) all.inputs.items))) }
-    ensures known { IfOk result (λ all. All (All (IsItsReader (net_from connections.now))) (map (λ row. row.items) all.inputs.items)) }
+    ensures readers { IfOk result (λ all. AreByPort blocks Side.Out connections.now
+        (map (λ row. row.items) all.readers.items)) }
+    ensures inputs { IfOk result (λ all. AreByPort blocks Side.In connections.now
+        (map (map (λ i. i.connection)) (map (λ row. row.items) all.inputs.items))) }
+    ensures known { IfOk result (λ all. All (All (IsItsReader (net_from connections.now)))
+        (map (λ row. row.items) all.inputs.items)) }
 {
     let mut readers: Vec<Vec<Connection>> = empty_rows(alloc, MOST_PORTS * blocks)?;
     let mut inputs: Vec<Vec<Input>> = empty_rows(alloc, MOST_PORTS * blocks)?;
@@ -64,7 +67,8 @@ pub fn empty_rows<T: Drop>(alloc: Global, count: usize) -> Result<Vec<Vec<T>>, A
 pub fn push_at<T: Drop>(rows: &mut [Vec<T>], at: usize, item: T) -> Result<(), AllocError>
     requires { at < length rows.old }
     ensures { OnOk result (map (λ row. row.items) rows.new
-        ≡ set (map (λ row. row.items) rows.old) at (slice_index_or (map (λ row. row.items) rows.old) at [] ++ item ∷ [])) }
+        ≡ set (map (λ row. row.items) rows.old) at (slice_index_or (map (λ row. row.items) rows.old) at []
+        ++ item ∷ [])) }
 {
     rows[at].push(item)?;
     Ok(())

@@ -15,7 +15,8 @@ pub fn entering(
 ) -> Result<Vec<usize>, AllocError>
     requires { AreWithin blocks connections.now }
     ensures len { IfOk result (λ counts. length counts.items ≡ blocks) }
-    ensures each { IfOk result (λ counts. (b : ℕ) → b < blocks → slice_index counts.items b ≡ length (filter (λ c. c.to.0 == b) connections.now)) }
+    ensures each { IfOk result (λ counts. (b : ℕ) → b < blocks → slice_index counts.items b
+        ≡ length (filter (λ c. c.to.0 == b) connections.now)) }
 {
     let mut counts: Vec<usize> = vec![in alloc; 0; blocks]?;
     for connection in connections {

@@ -30,12 +30,16 @@ pub fn greatest_gain<B: Block>(
 ) -> Result<u64, GraphFault>
     requires few { length blocks.now ≤ 256 }
     requires within { AreWithin (length blocks.now) connections.now }
-    requires no_loop { find (λ b. reaches_by (length blocks.now) (net_from connections.now) b b) (below (length blocks.now)) ≡ None }
+    requires no_loop { find (λ b. reaches_by (length blocks.now) (net_from connections.now) b b)
+        (below (length blocks.now)) ≡ None }
     ensures passed { OnOk result (option_map model.Gain
-        (find (λ b. nat_lt most_gain (gain_by (length blocks.now) (net_of B.meaning (graph_of [] blocks.now connections.now)) b)) (below (length blocks.now))) ≡ None) }
-    ensures value { IfOk result (λ gain. gain ≡ greatest_gain (net_of B.meaning (graph_of [] blocks.now connections.now))) }
+        (find (λ b. nat_lt most_gain (gain_by (length blocks.now) (net_of B.meaning
+        (graph_of [] blocks.now connections.now)) b)) (below (length blocks.now))) ≡ None) }
+    ensures value { IfOk result (λ gain. gain ≡ greatest_gain (net_of B.meaning
+        (graph_of [] blocks.now connections.now))) }
     ensures refused { IfErr result (λ fault. fault ≢ GraphFault.Memory → told Limit.Blocks (option_map model.Gain
-        (find (λ b. nat_lt most_gain (gain_by (length blocks.now) (net_of B.meaning (graph_of [] blocks.now connections.now)) b)) (below (length blocks.now)))) ≡ Some fault) }
+        (find (λ b. nat_lt most_gain (gain_by (length blocks.now) (net_of B.meaning
+        (graph_of [] blocks.now connections.now)) b)) (below (length blocks.now)))) ≡ Some fault) }
 {
     let gains = gains(alloc, blocks, connections)?;
     'steep: for block in 0..blocks.len() {
@@ -69,10 +73,12 @@ fn gains<B: Block>(
     connections: &[Connection],
 ) -> Result<Vec<u64>, AllocError>
     requires within { AreWithin (length blocks.now) connections.now }
-    requires no_loop { find (λ b. reaches_by (length blocks.now) (net_from connections.now) b b) (below (length blocks.now)) ≡ None }
+    requires no_loop { find (λ b. reaches_by (length blocks.now) (net_from connections.now) b b)
+        (below (length blocks.now)) ≡ None }
     ensures len { IfOk result (λ gains. length gains.items ≡ length blocks.now) }
     ensures each { IfOk result (λ gains. (b : ℕ) → b < length blocks.now →
-        slice_index gains.items b ≡ min (most_gain + 1) (gain_by (length blocks.now) (net_of B.meaning (graph_of [] blocks.now connections.now)) b)) }
+        slice_index gains.items b ≡ min (most_gain + 1) (gain_by (length blocks.now)
+        (net_of B.meaning (graph_of [] blocks.now connections.now)) b)) }
 {
     let own = own_gains(alloc, blocks)?;
     let mut gains = own_gains(alloc, blocks)?;
@@ -135,7 +141,8 @@ fn raise(connections: &[Connection], own: &[u64], gains: &mut [u64]) -> bool
     requires same { length own.now ≡ length gains.old }
     ensures reached { All (λ c. carried own.now gains.old c ≤ slice_index gains.new c.to.0) connections.now }
     ensures kept { (b : ℕ) → slice_index gains.old b ≤ slice_index gains.new b }
-    ensures bounded { (most : ℕ → ℕ) → ((b : ℕ) → slice_index gains.old b ≤ most b) → All (λ c. carried_to own.now most c ≤ most c.to.0) connections.now
+    ensures bounded { (most : ℕ → ℕ) → ((b : ℕ) → slice_index gains.old b ≤ most b)
+        → All (λ c. carried_to own.now most c ≤ most c.to.0) connections.now
         → (b : ℕ) → slice_index gains.new b ≤ most b }
     ensures still { result ≡ false → gains.new ≡ gains.old }
 {

@@ -100,11 +100,13 @@ impl<B: Block> Graph<B> {
         block: B,
         options: Options,
     ) -> Result<BlockId, GraphFault>
-        ensures allowed { OnOk result (add_fault self.old.names (net_of B.meaning self.old) name.now (node_of B.meaning (entry block options)) ≡ None) }
+        ensures allowed { OnOk result (add_fault self.old.names (net_of B.meaning self.old) name.now
+            (node_of B.meaning (entry block options)) ≡ None) }
         ensures added { OnOk result (self.new ≡ with_block self.old name.now (entry block options)) }
         ensures number { IfOk result (λ id. id.0 ≡ length self.old.blocks) }
         ensures refused { IfErr result (λ fault. fault
-            ≡ reported Limit.Blocks (add_fault self.old.names (net_of B.meaning self.old) name.now (node_of B.meaning (entry block options)))) }
+            ≡ reported Limit.Blocks (add_fault self.old.names (net_of B.meaning self.old) name.now
+            (node_of B.meaning (entry block options)))) }
         ensures unchanged { OnErr result (self.new ≡ self.old) }
     {
         if let Some(fault) = refused_block(&self.names, &self.blocks, name, &block, &options) {
@@ -124,7 +126,8 @@ impl<B: Block> Graph<B> {
     pub fn validate(self, alloc: Global) -> Result<Valid<B>, (Graph<B>, GraphFault)>
         ensures passed { OnOk result (graph_fault (net_of B.meaning self) ≡ None) }
         ensures valid { IfOk result (λ valid. valid ≡ self) }
-        ensures refused { IfErr result (λ refused. refused.1 ≢ GraphFault.Memory → told Limit.Blocks (graph_fault (net_of B.meaning self)) ≡ Some refused.1) }
+        ensures refused { IfErr result (λ refused. refused.1 ≢ GraphFault.Memory
+            → told Limit.Blocks (graph_fault (net_of B.meaning self)) ≡ Some refused.1) }
         ensures unchanged { IfErr result (λ refused. refused.0 ≡ self) }
     {
         match tested(alloc, &self.blocks, &self.connections) {
@@ -150,10 +153,12 @@ impl<B: Block> Graph<B> {
         to: BlockId,
         in_port: usize,
     ) -> Result<(), GraphFault>
-        ensures allowed { OnOk result (connect_fault (net_of B.meaning self.old) (connection_of (connection from out_port to in_port)) ≡ None) }
+        ensures allowed { OnOk result (connect_fault (net_of B.meaning self.old)
+            (connection_of (connection from out_port to in_port)) ≡ None) }
         ensures connected { OnOk result (self.new ≡ with_connection self.old (connection from out_port to in_port)) }
         ensures refused { IfErr result (λ fault. fault
-            ≡ reported Limit.Connections (connect_fault (net_of B.meaning self.old) (connection_of (connection from out_port to in_port)))) }
+            ≡ reported Limit.Connections (connect_fault (net_of B.meaning self.old)
+            (connection_of (connection from out_port to in_port)))) }
         ensures unchanged { OnErr result (self.new ≡ self.old) }
     {
         let connection = Connection {
@@ -180,10 +185,12 @@ fn tested<B: Block>(
     requires few { length blocks.now ≤ 256 }
     requires within { AreWithin (length blocks.now) connections.now }
     ensures passed { OnOk result (graph_fault (net_of B.meaning (graph_of [] blocks.now connections.now)) ≡ None) }
-    ensures tables { IfOk result (λ made. AreTables (length blocks.now) connections.now made.0.inputs made.0.outputs.items made.0.readers) }
+    ensures tables { IfOk result (λ made. AreTables (length blocks.now) connections.now made.0.inputs
+        made.0.outputs.items made.0.readers) }
     ensures order { IfOk result (λ made. IsOrderOf (length blocks.now) made.0.order.items) }
     ensures asked { IfOk result (λ made. AreAsked B.meaning blocks.now made.1.items) }
-    ensures gain { IfOk result (λ made. made.2 ≡ greatest_gain (net_of B.meaning (graph_of [] blocks.now connections.now))) }
+    ensures gain { IfOk result (λ made. made.2 ≡ greatest_gain (net_of B.meaning
+        (graph_of [] blocks.now connections.now))) }
     ensures refused { IfErr result (λ fault. fault ≢ GraphFault.Memory
         → told Limit.Blocks (graph_fault (net_of B.meaning (graph_of [] blocks.now connections.now))) ≡ Some fault) }
 {

@@ -23,7 +23,8 @@ pub fn loop_fault(
     requires few { blocks ≤ 256 }
     requires within { AreWithin blocks connections.now }
     ensures { IfOk result (λ fault. fault
-        ≡ told Limit.Blocks (option_map model.Loop (find (λ b. reaches_by blocks (net_from connections.now) b b) (below blocks)))) }
+        ≡ told Limit.Blocks (option_map model.Loop (find (λ b. reaches_by blocks (net_from connections.now) b b)
+        (below blocks)))) }
 {
     let ranks = ranks(alloc, blocks, connections)?;
     let suspects = suspects(alloc, connections, &ranks)?;
@@ -47,7 +48,8 @@ fn suspects(
 ) -> Result<Vec<bool>, AllocError>
     requires { AreWithin (length ranks.now) connections.now }
     ensures len { IfOk result (λ marks. length marks.items ≡ length ranks.now) }
-    ensures others { IfOk result (λ marks. (n b : ℕ) → b < length ranks.now → slice_index_or marks.items b false ≡ false → reaches_by n (net_from connections.now) b b ≡ false) }
+    ensures others { IfOk result (λ marks. (n b : ℕ) → b < length ranks.now → slice_index_or marks.items b false ≡ false
+        → reaches_by n (net_from connections.now) b b ≡ false) }
 {
     let fall = fall(connections, ranks);
     let mut marks: Vec<bool> = vec![in alloc; fall; ranks.len()]?;
@@ -63,7 +65,8 @@ fn suspects(
 // Whether ranks fall along a connection.
 fn fall(connections: &[Connection], ranks: &[usize]) -> bool
     requires { AreWithin (length ranks.now) connections.now }
-    ensures { result ≡ false → All (λ c. slice_index ranks.now c.from.0 ≤ slice_index ranks.now c.to.0) connections.now }
+    ensures { result ≡ false → All (λ c. slice_index ranks.now c.from.0 ≤ slice_index ranks.now c.to.0)
+        connections.now }
 {
     for connection in connections {
         if ranks[connection.to.0 as usize] < ranks[connection.from.0 as usize] {
@@ -97,7 +100,8 @@ fn reaches_itself(
 // Marks the blocks that a connection reaches from the start or from a marked block, in one turn over the connections.
 fn spread(connections: &[Connection], start: usize, reached: &mut [bool])
     requires { AreWithin (length reached.old) connections.now }
-    ensures spread { All (λ c. (c.from.0 == start || slice_index_or reached.old c.from.0 false) ≡ true → slice_index_or reached.new c.to.0 false ≡ true) connections.now }
+    ensures spread { All (λ c. (c.from.0 == start || slice_index_or reached.old c.from.0 false) ≡ true
+        → slice_index_or reached.new c.to.0 false ≡ true) connections.now }
     ensures kept { (b : ℕ) → slice_index_or reached.old b false ≡ true → slice_index_or reached.new b false ≡ true }
     ensures sound { ((b : ℕ) → slice_index_or reached.old b false ≡ true → Reaches (net_from connections.now) start b)
         → (b : ℕ) → slice_index_or reached.new b false ≡ true → Reaches (net_from connections.now) start b }

@@ -14,7 +14,8 @@ pub struct BlockId(pub u32);
 pub struct Options {
     /// Which tags go from its inputs to its outputs.
     pub policy: Policy,
-    /// How many base firings one firing is, from 1 to 64. It is 1 for sources and sinks, and for blocks with a limit or without a rate.
+    /// How many base firings one firing is, from 1 to 64. It is 1 for sources and sinks, and for blocks with a limit or
+    /// without a rate.
     pub multiple: u32,
     /// How many unread items the buffer of each output holds at least, from 1 to 65,536. It holds more if one firing of
     /// a block at its ends, or the rates, need more.

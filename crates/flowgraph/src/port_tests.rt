@@ -22,7 +22,8 @@ pub fn port_fault<B: Block>(
 ) -> Result<Option<GraphFault>, AllocError>
     requires few { length blocks.now ≤ 256 }
     requires within { AreWithin (length blocks.now) connections.now }
-    ensures { IfOk result (λ fault. fault ≡ told Limit.Blocks (first_fault (port_faults (net_of B.meaning (graph_of [] blocks.now connections.now))))) }
+    ensures { IfOk result (λ fault. fault ≡ told Limit.Blocks (first_fault
+        (port_faults (net_of B.meaning (graph_of [] blocks.now connections.now))))) }
 {
     let inputs = used_ports(alloc, blocks.len(), connections, Side::In)?;
     let outputs = used_ports(alloc, blocks.len(), connections, Side::Out)?;

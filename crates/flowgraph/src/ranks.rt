@@ -60,8 +60,8 @@ pub fn ranks(
     Ok(second.roots)
 }
 
-/// The blocks, each behind its writers, but for those that it reaches. Where the order of their numbers is such an order, it is that one. Who relies on
-/// this looks at them, since the contract does not say it.
+/// The blocks, each behind its writers, but for those that it reaches. Where the order of their numbers is such an
+/// order, it is that one. Who relies on this looks at them, since the contract does not say it.
 pub fn writers_first(
     alloc: Global,
     blocks: usize,
@@ -167,7 +167,8 @@ fn take_step(search: &mut Search, neighbours: &[Vec<usize>]) -> Result<bool, All
 
 // The steps to the roots.
 fn steps_to(alloc: Global, roots: &[usize]) -> Result<Vec<Step>, AllocError>
-    ensures { IfOk result (λ stack. (blocks : ℕ) → All (λ b. b < blocks) roots.now → All (λ s. s.block < blocks) stack.items) }
+    ensures { IfOk result (λ stack. (blocks : ℕ) → All (λ b. b < blocks) roots.now
+        → All (λ s. s.block < blocks) stack.items) }
 {
     let mut stack = Vec::with_capacity(alloc, roots.len())?;
     for (root, block) in roots.iter().enumerate() {
@@ -182,7 +183,8 @@ fn steps_to(alloc: Global, roots: &[usize]) -> Result<Vec<Step>, AllocError>
 
 // Adds the steps from a block to its neighbours, and below them the one that leaves it.
 fn go_on(stack: &mut Vec<Step>, step: Step, neighbours: &[usize]) -> Result<(), AllocError>
-    ensures { OnOk result ((blocks : ℕ) → All (λ s. s.block < blocks) stack.old.items → step.block < blocks → All (λ b. b < blocks) neighbours.now
+    ensures { OnOk result ((blocks : ℕ) → All (λ s. s.block < blocks) stack.old.items → step.block < blocks
+        → All (λ b. b < blocks) neighbours.now
         → All (λ s. s.block < blocks) stack.new.items) }
 {
     stack.push(Step {

@@ -36,7 +36,8 @@ pub(crate) fn refused_block<B: Block>(
     options: &Options,
 ) -> Option<GraphFault>
     ensures { result ≡ option_map (λ fault. reported Limit.Blocks (Some fault))
-        (add_fault (map (λ n. n.items) names.now.keys) (net_of B.meaning (graph_of [] blocks.now [])) name.now (node_of B.meaning (entry block.now options.now))) }
+        (add_fault (map (λ n. n.items) names.now.keys) (net_of B.meaning (graph_of [] blocks.now [])) name.now
+        (node_of B.meaning (entry block.now options.now))) }
 {
     if !is_block_name(name) {
         return Some(GraphFault::BadParameter(BlockOption::Name));
@@ -138,8 +139,10 @@ fn refused_ports<B: Block>(blocks: &[Entry<B>], new: &Connection) -> Option<Grap
     requires from { new.now.from.0 < length blocks.now }
     requires to { new.now.to.0 < length blocks.now }
     ensures { result ≡ option_map (λ fault. reported Limit.Connections (Some fault)) (first_fault (
-        unless (has_port (node_at (net_of B.meaning (graph_of [] blocks.now [])) new.now.from.0) Out new.now.out_port) (PortRange new.now.from.0 Out new.now.out_port)
-        ∷ unless (has_port (node_at (net_of B.meaning (graph_of [] blocks.now [])) new.now.to.0) In new.now.in_port) (PortRange new.now.to.0 In new.now.in_port)
+        unless (has_port (node_at (net_of B.meaning (graph_of [] blocks.now [])) new.now.from.0) Out new.now.out_port)
+        (PortRange new.now.from.0 Out new.now.out_port)
+        ∷ unless (has_port (node_at (net_of B.meaning (graph_of [] blocks.now [])) new.now.to.0) In new.now.in_port)
+        (PortRange new.now.to.0 In new.now.in_port)
         ∷ [])) }
 {
     if !may_have(&blocks[new.from.0 as usize].block.outputs(), new.out_port) {

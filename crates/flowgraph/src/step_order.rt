@@ -16,8 +16,8 @@ struct Order {
     placed: Vec<bool>,
 }
 
-/// All blocks, each behind its writers; where there is no loop, what comes in goes through in one turn over them. Where the order of their numbers is such
-/// an order, it is that one. The contract says only that all are there.
+/// All blocks, each behind its writers; where there is no loop, what comes in goes through in one turn over them. Where
+/// the order of their numbers is such an order, it is that one. The contract says only that all are there.
 pub fn step_order(
     alloc: Global,
     blocks: usize,
@@ -50,7 +50,8 @@ fn place(order: &mut Order, block: usize) -> Result<(), AllocError>
     ensures made { OnOk result (IsMade order.new) }
     ensures len { OnOk result (length order.new.placed.items ≡ length order.old.placed.items) }
     ensures placed { OnOk result (slice_index_or order.new.placed.items block false ≡ true) }
-    ensures kept { OnOk result ((b : ℕ) → slice_index_or order.old.placed.items b false ≡ true → slice_index_or order.new.placed.items b false ≡ true) }
+    ensures kept { OnOk result ((b : ℕ) → slice_index_or order.old.placed.items b false ≡ true
+        → slice_index_or order.new.placed.items b false ≡ true) }
 {
     if order.placed[block] {
         return Ok(());

@@ -29,8 +29,8 @@ use stream_model::ItemType;
 // The most items that the gains along a path may make of a tape.
 const MOST_GROWN: u64 = 1 << 61;
 
-/// A valid graph, with tables of how its blocks are wired. No call of it takes memory. A contract sees the blocks with their names, and the
-/// connections.
+/// A valid graph, with tables of how its blocks are wired. No call of it takes memory. A contract sees the blocks with
+/// their names, and the connections.
 pub struct Valid<B: Block> {
     names: IndexSet<Vec<u8>>,
     blocks: Vec<Entry<B>>,
@@ -82,7 +82,8 @@ impl<B: Block> Model for Valid<B> {
     ghost view = { λ g. graph_of (map (λ name. name.items) g.names.keys) g.blocks.items g.connections.items };
 
     ghost invariant = { λ g. let graph = graph_of (map (λ name. name.items) g.names.keys) g.blocks.items g.connections.items in
-        IsValidGraph graph.names (net_of B.meaning graph) × IsWired (net_of B.meaning graph) g.wiring.inputs g.wiring.outputs.items g.wiring.readers
+        IsValidGraph graph.names (net_of B.meaning graph) × IsWired (net_of B.meaning graph) g.wiring.inputs
+        g.wiring.outputs.items g.wiring.readers
         × AreAsked B.meaning g.blocks.items g.asked.items × (g.gain ≡ greatest_gain (net_of B.meaning graph))
         × IsOrderOf (length g.blocks.items) g.wiring.order.items };
 }
@@ -97,10 +98,13 @@ impl<B: Block> Valid<B> {
         asked: Vec<Asked>,
         gain: u64,
     ) -> Valid<B>
-        requires valid { IsValidGraph (map (λ n. n.items) names.keys) (net_of B.meaning (graph_of (map (λ n. n.items) names.keys) blocks.items connections.items)) }
-        requires wired { IsWired (net_of B.meaning (graph_of (map (λ n. n.items) names.keys) blocks.items connections.items)) wiring.inputs wiring.outputs.items wiring.readers }
+        requires valid { IsValidGraph (map (λ n. n.items) names.keys) (net_of B.meaning
+            (graph_of (map (λ n. n.items) names.keys) blocks.items connections.items)) }
+        requires wired { IsWired (net_of B.meaning (graph_of (map (λ n. n.items) names.keys) blocks.items
+            connections.items)) wiring.inputs wiring.outputs.items wiring.readers }
         requires asked { AreAsked B.meaning blocks.items asked.items }
-        requires gain { gain ≡ greatest_gain (net_of B.meaning (graph_of (map (λ n. n.items) names.keys) blocks.items connections.items)) }
+        requires gain { gain ≡ greatest_gain (net_of B.meaning (graph_of (map (λ n. n.items) names.keys) blocks.items
+            connections.items)) }
         requires order { IsOrderOf (length blocks.items) wiring.order.items }
         ensures { result ≡ graph_of (map (λ n. n.items) names.keys) blocks.items connections.items }
     {
@@ -137,8 +141,9 @@ impl<B: Block> Valid<B> {
         &self.connections
     }
 
-    /// All blocks, each behind those that write its inputs: stepped in this order, they pass on in one turn what comes in. If the blocks were added in
-    /// such an order it is that one. A run comes to the same in any order, and the contract says only that all blocks are there.
+    /// All blocks, each behind those that write its inputs: stepped in this order, they pass on in one turn what comes
+    /// in. If the blocks were added in such an order it is that one. A run comes to the same in any order, and the
+    /// contract says only that all blocks are there.
     pub fn writers_first(&self) -> &[BlockId]
         ensures { IsOrderOf (length self.now.blocks) result.now }
     {
@@ -343,7 +348,8 @@ impl<B: Block> Valid<B> {
             .row(MOST_PORTS * block.0 as usize + port)
     }
 
-    /// Whether another graph is the same: its names, its blocks by `==`, its options and its connections, in their order.
+    /// Whether another graph is the same: its names, its blocks by `==`, its options and its connections, in their
+    /// order.
     pub fn agrees(&self, other: &Valid<B>) -> bool
         ensures same { result ≡ graphs_agree B.eq self.now other.now }
         ensures nets { IsTrue result → net_of B.meaning self.now ≡ net_of B.meaning other.now }

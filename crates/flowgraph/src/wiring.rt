@@ -63,10 +63,13 @@ fn all_inputs(
 ) -> Result<Rows<Input>, AllocError>
     requires few { length entering.now ≤ 256 }
     requires within { AreWithin (length entering.now) connections.now }
-    requires ports { AreByPort (length entering.now) Side.In connections.now (map (map (λ i. i.connection)) (map (λ row. row.items) ports.now)) }
+    requires ports { AreByPort (length entering.now) Side.In connections.now
+        (map (map (λ i. i.connection)) (map (λ row. row.items) ports.now)) }
     requires known { All (All (IsItsReader (net_from connections.now))) (map (λ row. row.items) ports.now) }
-    requires entering { (b : ℕ) → b < length entering.now → slice_index entering.now b ≡ length (filter (λ c. c.to.0 == b) connections.now) }
-    ensures writers { IfOk result (λ rows. map writers_in rows ≡ map (writers_of (net_from connections.now)) (below (length entering.now))) }
+    requires entering { (b : ℕ) → b < length entering.now → slice_index entering.now b
+        ≡ length (filter (λ c. c.to.0 == b) connections.now) }
+    ensures writers { IfOk result (λ rows. map writers_in rows ≡ map (writers_of (net_from connections.now))
+        (below (length entering.now))) }
     ensures readers { IfOk result (λ rows. All (All (IsItsReader (net_from connections.now))) rows) }
 {
     let mut rows = Rows::new(alloc);
@@ -86,7 +89,8 @@ fn inputs(
 ) -> Result<Vec<Input>, AllocError>
     requires few { (block < 256) × (count ≤ 16) }
     requires within { 16 * block + 16 ≤ length ports.now }
-    ensures { IfOk result (λ row. row.items ≡ flat_map (λ p. slice_index_or (map (λ row. row.items) ports.now) (16 * block + p) []) (below count)) }
+    ensures { IfOk result (λ row. row.items ≡ flat_map (λ p. slice_index_or (map (λ row. row.items) ports.now)
+        (16 * block + p) []) (below count)) }
 {
     let mut row = Vec::new(alloc);
     for port in 0..count {

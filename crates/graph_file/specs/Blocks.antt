@@ -40,11 +40,24 @@ policy_in (Some text) = policy_or (policy_named text)
 
 -- a block with the options of its table
 abbrev pub node_at : Meaning → Members → Node
-node_at m ms = record { meaning = m; policy = policy_in (string_in (at_key keys.Tags ms)); multiple = small_at ms keys.Multiple; capacity = small_at ms keys.Capacity }
+node_at m ms = record {
+  meaning = m;
+  policy = policy_in (string_in (at_key keys.Tags ms));
+  multiple = small_at ms
+      keys.Multiple;
+  capacity = small_at ms keys.Capacity;
+}
 
 -- the graph with one block more
 abbrev pub with_node : Draft → List ℕ → Node → Draft
-with_node d name node = record { names = d.names ++ name ∷ []; net = record { nodes = d.net.nodes ++ node ∷ []; connections = d.net.connections } }
+with_node d name node = record {
+  names = d.names ++ name ∷ [];
+  net = record {
+    nodes = d.net.nodes
+        ++ node ∷ [];
+    connections = d.net.connections;
+  };
+}
 
 -- the graph with the block of table n, unless the block does not go into it
 abbrev pub added : ℕ → Draft → List ℕ → Node → Option model.GraphFault → Result Draft Refusal
@@ -54,7 +67,8 @@ added n d name node (Some fault) = Err (of_graph (places.Block n) (reported Bloc
 -- the same, where the table means a block
 abbrev pub block_added : ℕ → Draft → Members → Result Meaning KeyFault → Result Draft Refusal
 block_added n d ms (Err fault) = Err (at_table (places.Block n) fault)
-block_added n d ms (Ok m) = added n d (text_at ms keys.Name) (node_at m ms) (add_fault d.names d.net (text_at ms keys.Name) (node_at m ms))
+block_added n d ms (Ok m) = added n d (text_at ms keys.Name) (node_at m ms)
+    (add_fault d.names d.net (text_at ms keys.Name) (node_at m ms))
 
 -- the graph with the block of table n
 abbrev pub block_step : ℕ → Draft → Members → Result Draft Refusal

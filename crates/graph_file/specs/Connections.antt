@@ -29,7 +29,8 @@ name_in (Some ms) = text_at ms keys.Name
 -- the number of the first block of a name, counted from n
 abbrev pub number_from : ℕ → List ℕ → Items → Option ℕ
 number_from n name no_items = None
-number_from n name (item d ds) = if bytes_eq (name_in (as_table d)) name then Some (min n (2 ^ 32 - 1)) else number_from (suc n) name ds
+number_from n name (item d ds) = if bytes_eq (name_in (as_table d)) name then Some (min n (2 ^ 32 - 1)) else number_from
+    (suc n) name ds
 
 -- what follows, where a port of the connection of table n is not negative
 abbrev pub from_zero : ℕ → ℤ → List ℕ → Side → Result Draft Refusal → Result Draft Refusal
@@ -38,7 +39,14 @@ from_zero n (negsuc port) end side rest = Err (negative_port (places.Connect n) 
 
 -- the graph with one connection more
 abbrev pub with_connection : Draft → network.Connection → Draft
-with_connection d c = record { names = d.names; net = record { nodes = d.net.nodes; connections = d.net.connections ++ c ∷ [] } }
+with_connection d c = record {
+  names = d.names;
+  net = record {
+    nodes = d.net.nodes;
+    connections = d.net.connections
+        ++ c ∷ [];
+  };
+}
 
 -- the name of the block that a refused connection names: that of the output only where the output is wrong
 abbrev pub end_named : Members → GraphFault → List ℕ
@@ -48,7 +56,8 @@ end_named ms _ = text_at ms keys.To
 -- the graph with the connection of table n, unless the connection does not go into it
 abbrev pub connected : ℕ → Draft → Members → network.Connection → Option model.GraphFault → Result Draft Refusal
 connected n d ms c None = Ok (with_connection d c)
-connected n d ms c (Some fault) = Err (of_graph (places.Connect n) (reported Connections (Some fault)) (short (end_named ms (reported Connections (Some fault)))))
+connected n d ms c (Some fault) = Err (of_graph (places.Connect n) (reported Connections (Some fault))
+    (short (end_named ms (reported Connections (Some fault)))))
 
 -- what follows, where a block has the name
 abbrev pub known : ℕ → Option ℕ → (ℕ → Result Draft Refusal) → Result Draft Refusal
@@ -58,7 +67,13 @@ known n (Some b) next = next b
 -- the same, from block to block by the ports of the table
 abbrev pub joined : ℕ → Draft → Members → ℕ → ℕ → Result Draft Refusal
 joined n d ms from to =
-    let c : network.Connection = record { from = from; out_port = count_at ms keys.FromPort; to = to; in_port = count_at ms keys.ToPort } in
+    let c : network.Connection = record {
+      from = from;
+      out_port = count_at ms keys.FromPort;
+      to = to;
+      in_port = count_at
+          ms keys.ToPort;
+    } in
     connected n d ms c (connect_fault d.net c)
 
 -- the keys up to the port of the output, and all keys
@@ -80,7 +95,8 @@ connect_step blocks n d ms =
     (from_zero n (number_at ms keys.FromPort) (text_at ms keys.From) Out
     (unless (places.Connect n) (keys_fault ms (keys.ToPort ∷ []))
     (from_zero n (number_at ms keys.ToPort) (text_at ms keys.To) In
-    (known n (number_from 0 (text_at ms keys.From) blocks) (λ from. known n (number_from 0 (text_at ms keys.To) blocks) (λ to. joined n d ms from to))))))
+    (known n (number_from 0 (text_at ms keys.From) blocks) (λ from. known n (number_from 0 (text_at ms keys.To) blocks)
+    (λ to. joined n d ms from to))))))
 
 -- the connection of the table takes memory as it goes into the graph
 abbrev pub ConnectTakes : Items → ℕ → Draft → Members → Type 0

@@ -31,7 +31,12 @@ mark_keys = keys.MarkAt ∷ keys.MarkKey ∷ keys.MarkValue ∷ []
 -- the tag of a table with this key, where the key is one
 abbrev pub mark_with : Option (List ℕ) → Members → Option FileMark
 mark_with None ms = None
-mark_with (Some key) ms = Some (record { at = number_at ms keys.MarkAt; key = key; value = number_at ms keys.MarkValue })
+mark_with (Some key) ms = Some (record {
+  at = number_at ms keys.MarkAt;
+  key = key;
+  value = number_at ms
+      keys.MarkValue;
+})
 
 -- the same, where nothing is wrong with the table
 abbrev pub mark_without : Option KeyFault → Members → Option FileMark
@@ -59,11 +64,16 @@ feed_keys = keys.Source ∷ keys.Items ∷ keys.Marks ∷ []
 -- the feed of table n with these tags, where all its tags are some
 abbrev pub marked : ℕ → Members → Option (List FileMark) → Result Fed Refusal
 marked n ms None = Err (at_table (places.Feed n) (WrongType keys.Marks))
-marked n ms (Some marks) = Ok (record { source = text_at ms keys.Source; items = numbers_at ms keys.Items; marks = marks })
+marked n ms (Some marks) = Ok (record {
+  source = text_at ms keys.Source;
+  items = numbers_at ms keys.Items;
+  marks = marks;
+})
 
 -- the feed of table n
 abbrev pub feed_in : ℕ → Members → Result Fed Refusal
-feed_in n ms = unless (places.Feed n) (only_fault (has_only feed_keys ms) (keys_fault ms feed_keys)) (marked n ms (marks_of (items_at ms keys.Marks)))
+feed_in n ms = unless (places.Feed n) (only_fault (has_only feed_keys ms) (keys_fault ms feed_keys))
+    (marked n ms (marks_of (items_at ms keys.Marks)))
 
 -- the feeds with one more
 abbrev pub one_more : List Fed → Result Fed Refusal → Result (List Fed) Refusal

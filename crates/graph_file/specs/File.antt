@@ -33,7 +33,8 @@ top_keys = keys.Block ∷ keys.Connect ∷ keys.Feed ∷ []
 
 -- the graph of a document
 abbrev pub graph_in : Members → Result Draft Refusal
-graph_in ms = then (steps block_step 0 empty (items_at ms keys.Block)) (λ d. steps (connect_step (items_at ms keys.Block)) 0 d (items_at ms keys.Connect))
+graph_in ms = then (steps block_step 0 empty (items_at ms keys.Block))
+    (λ d. steps (connect_step (items_at ms keys.Block)) 0 d (items_at ms keys.Connect))
 
 -- the feeds of a document
 abbrev pub feeds_in : Members → Result (List Fed) Refusal
@@ -47,7 +48,8 @@ content_of (Ok graph) (Ok feeds) = Ok (record { graph = graph; feeds = feeds })
 
 -- what a document says, or why it is refused: its own keys, then its blocks, its connections and its feeds
 abbrev pub file_in : Members → Result Content Refusal
-file_in ms = unless Top (only_fault (has_only top_keys ms) (keys_fault ms top_keys)) (content_of (graph_in ms) (feeds_in ms))
+file_in ms = unless Top (only_fault (has_only top_keys ms) (keys_fault ms top_keys))
+    (content_of (graph_in ms) (feeds_in ms))
 
 -- the same for what is read of a text
 abbrev pub file_of : Option Members → Result Content Refusal
@@ -58,7 +60,8 @@ file_of (Some ms) = file_in ms
 abbrev pub GraphTakes : Members → Type 0
 GraphTakes ms =
     StepsTake block_step BlockTakes 0 empty (items_at ms keys.Block)
-    ⊎ IsOkAnd (steps block_step 0 empty (items_at ms keys.Block)) (λ d. StepsTake (connect_step (items_at ms keys.Block)) (ConnectTakes (items_at ms keys.Block)) 0 d (items_at ms keys.Connect))
+    ⊎ IsOkAnd (steps block_step 0 empty (items_at ms keys.Block)) (λ d. StepsTake
+    (connect_step (items_at ms keys.Block)) (ConnectTakes (items_at ms keys.Block)) 0 d (items_at ms keys.Connect))
 
 -- the same of a feed, behind a graph that is taken
 abbrev pub FeedsTake : Members → Type 0

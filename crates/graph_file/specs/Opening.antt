@@ -75,7 +75,8 @@ feed_now d st feed = feed_found d.net st feed (position (bytes_eq feed.source) d
 -- the feed takes memory: the name is that of a source, and marks are copied for it or what it is fed is kept
 abbrev pub CopiesFor : Network → State → Fed → Option ℕ → Type 0
 CopiesFor net st feed None = ⊥
-CopiesFor net st feed (Some b) = IsOk (source_type_of net b) × ((0 < length feed.marks) ⊎ (takes_memory (feed_found net st feed (Some b)).0 ≡ true))
+CopiesFor net st feed (Some b) = IsOk (source_type_of net b) × ((0 < length feed.marks)
+    ⊎ (takes_memory (feed_found net st feed (Some b)).0 ≡ true))
 
 abbrev pub FeedCopies : Draft → State → Fed → Type 0
 FeedCopies d st feed = CopiesFor d.net st feed (position (bytes_eq feed.source) d.names)
@@ -103,7 +104,8 @@ module _ (longest : Network → ℕ) where
   abbrev pub opened_within : Content → Result Opened Refusal
   opened_within c = then (validated c.graph) (λ d. opened_with d c.feeds)
 
--- the plant of a file, and the one that streams, of which a tape may come to hold as many items as the greatest gain of the graph allows
+-- the plant of a file, and the one that streams, of which a tape may come to hold as many items as the greatest gain of
+-- the graph allows
 abbrev pub opened : Content → Result Opened Refusal
 opened c = opened_within (λ _. longest_tape) c
 

@@ -14,9 +14,9 @@ use Rattle.graph_file.specs.declared.fault.FilePlace.{FilePlace}
 use Rattle.graph_file.specs.declared.fault.FileFault.{FileFault}
 use Rattle.graph_file.specs.declared.fault.FileFault.TheVariants as file
 
--- a refusal: the text is no TOML, a table at a place is wrong, a block or a connection does not go into the graph, where a block of
--- this name is named, a port of the connection at a place is negative, at the end of the block of this name, or the feed of this number
--- is refused by a number
+-- a refusal: the text is no TOML, a table at a place is wrong, a block or a connection does not go into the graph,
+-- where a block of this name is named, a port of the connection at a place is negative, at the end of the block of this
+-- name, or the feed of this number is refused by a number
 pub data Refusal : Type 0 where
   syntax : Refusal
   at_table : FilePlace → KeyFault → Refusal

@@ -35,4 +35,5 @@ module _ {A : Type 0} (step : ℕ → A → Members → Result A Refusal) (Takes
   -- one of the steps that are reached takes memory
   abbrev pub StepsTake : ℕ → A → Items → Type 0
   StepsTake n a no_items = ⊥
-  StepsTake n a (item d ds) = TakesIn Takes n a (as_table d) ⊎ IsOkAnd (step_in step n a (as_table d)) (λ b. StepsTake (suc n) b ds)
+  StepsTake n a (item d ds) = TakesIn Takes n a (as_table d) ⊎ IsOkAnd (step_in step n a (as_table d))
+      (λ b. StepsTake (suc n) b ds)

@@ -36,9 +36,11 @@ table_rest place key.Memory = []
 abbrev pub graph_rest : FilePlace → GraphFault → List ℕ → List ℕ
 graph_rest place graph.DuplicateName name = codes " " ++ name
 graph_rest place graph.UnknownBlock name = codes " " ++ place_text place
-graph_rest place (graph.PortRange b side p) name = codes " " ++ name ++ codes " " ++ side_text side ++ codes " " ++ decimal p
+graph_rest place (graph.PortRange b side p) name = codes " " ++ name ++ codes " " ++ side_text side ++ codes " "
+    ++ decimal p
 graph_rest place (graph.InputTaken b p) name = codes " " ++ name ++ codes " " ++ decimal p
-graph_rest place (graph.PortGap b side p) name = codes " " ++ name ++ codes " " ++ side_text side ++ codes " " ++ decimal p
+graph_rest place (graph.PortGap b side p) name = codes " " ++ name ++ codes " " ++ side_text side ++ codes " "
+    ++ decimal p
 graph_rest place (graph.TypeMismatch b p) name = codes " " ++ name ++ codes " " ++ decimal p
 graph_rest place (graph.Loop b) name = codes " " ++ name
 graph_rest place (graph.TooFewPorts b) name = codes " " ++ name
@@ -54,7 +56,8 @@ end_text place name = if length name == 0 then place_text place else name
 
 -- of a port of that end that is negative
 abbrev pub negative_rest : FilePlace → List ℕ → Side → ℤ → List ℕ
-negative_rest place name side port = codes " " ++ end_text place name ++ codes " " ++ side_text side ++ codes " " ++ signed_decimal port
+negative_rest place name side port = codes " " ++ end_text place name ++ codes " " ++ side_text side ++ codes " "
+    ++ signed_decimal port
 
 -- of a fault
 abbrev pub rest_of : FileFault → List ℕ

@@ -19,7 +19,8 @@ use toml::{Table, Value};
 
 /// The blocks of an array of tables, in their order.
 pub(crate) fn blocks_of(alloc: Global, values: &[Value]) -> Result<Vec<Kind>, FileFault>
-    ensures ok { IfOk result (λ blocks. steps meaning_step 0 [] (items_view values.now) ≡ Ok (map meaning_of blocks.items)) }
+    ensures ok { IfOk result (λ blocks. steps meaning_step 0 [] (items_view values.now)
+        ≡ Ok (map meaning_of blocks.items)) }
     ensures refused { IfErr result (IsRefused (steps meaning_step 0 [] (items_view values.now))) }
 {
     let mut blocks = Vec::new(alloc);
@@ -38,8 +39,10 @@ fn push_value(
     number: usize,
     value: &Value,
 ) -> Result<(), FileFault>
-    ensures ok { OnOk result (step_in meaning_step number (map meaning_of blocks.old.items) (as_table (view value.now)) ≡ Ok (map meaning_of blocks.new.items)) }
-    ensures refused { IfErr result (IsRefused (step_in meaning_step number (map meaning_of blocks.old.items) (as_table (view value.now)))) }
+    ensures ok { OnOk result (step_in meaning_step number (map meaning_of blocks.old.items) (as_table (view value.now))
+        ≡ Ok (map meaning_of blocks.new.items)) }
+    ensures refused { IfErr result (IsRefused (step_in meaning_step number (map meaning_of blocks.old.items)
+        (as_table (view value.now)))) }
 {
     let Some(table) = value.as_table() else {
         return Ok(());
@@ -58,7 +61,8 @@ pub(crate) fn add_blocks(
 ) -> Result<(), FileFault>
     ensures ok { OnOk result (steps block_step 0 (drafted graph.old) (items_view values.now) ≡ Ok (drafted graph.new)) }
     ensures refused { IfErr result (IsRefused (steps block_step 0 (drafted graph.old) (items_view values.now))) }
-    ensures memory { IsErrOf result FileFault.Memory → StepsTake block_step BlockTakes 0 (drafted graph.old) (items_view values.now) }
+    ensures memory { IsErrOf result FileFault.Memory → StepsTake block_step BlockTakes 0 (drafted graph.old)
+        (items_view values.now) }
 {
     for (number, value) in values.iter().enumerate() {
         if let Err(fault) = add_value(alloc, graph, number, value) {
@@ -75,9 +79,12 @@ fn add_value(
     number: usize,
     value: &Value,
 ) -> Result<(), FileFault>
-    ensures ok { OnOk result (step_in block_step number (drafted graph.old) (as_table (view value.now)) ≡ Ok (drafted graph.new)) }
-    ensures refused { IfErr result (IsRefused (step_in block_step number (drafted graph.old) (as_table (view value.now)))) }
-    ensures memory { IsErrOf result FileFault.Memory → TakesIn BlockTakes number (drafted graph.old) (as_table (view value.now)) }
+    ensures ok { OnOk result (step_in block_step number (drafted graph.old) (as_table (view value.now))
+        ≡ Ok (drafted graph.new)) }
+    ensures refused { IfErr result (IsRefused (step_in block_step number (drafted graph.old)
+        (as_table (view value.now)))) }
+    ensures memory { IsErrOf result FileFault.Memory → TakesIn BlockTakes number (drafted graph.old)
+        (as_table (view value.now)) }
 {
     match value.as_table() {
         Some(table) => add_block(alloc, graph, number, table),

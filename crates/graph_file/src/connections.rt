@@ -21,9 +21,12 @@ pub(crate) fn add_connections(
     blocks: &[Value],
     values: &[Value],
 ) -> Result<(), FileFault>
-    ensures ok { OnOk result (steps (connect_step (items_view blocks.now)) 0 (drafted graph.old) (items_view values.now) ≡ Ok (drafted graph.new)) }
-    ensures refused { IfErr result (IsRefused (steps (connect_step (items_view blocks.now)) 0 (drafted graph.old) (items_view values.now))) }
-    ensures memory { IsErrOf result FileFault.Memory → StepsTake (connect_step (items_view blocks.now)) (ConnectTakes (items_view blocks.now)) 0 (drafted graph.old) (items_view values.now) }
+    ensures ok { OnOk result (steps (connect_step (items_view blocks.now)) 0 (drafted graph.old) (items_view values.now)
+        ≡ Ok (drafted graph.new)) }
+    ensures refused { IfErr result (IsRefused (steps (connect_step (items_view blocks.now)) 0 (drafted graph.old)
+        (items_view values.now))) }
+    ensures memory { IsErrOf result FileFault.Memory → StepsTake (connect_step (items_view blocks.now))
+        (ConnectTakes (items_view blocks.now)) 0 (drafted graph.old) (items_view values.now) }
 {
     for (number, value) in values.iter().enumerate() {
         if let Err(fault) = connect_value(graph, blocks, number, value) {
@@ -40,9 +43,12 @@ fn connect_value(
     number: usize,
     value: &Value,
 ) -> Result<(), FileFault>
-    ensures ok { OnOk result (step_in (connect_step (items_view blocks.now)) number (drafted graph.old) (as_table (view value.now)) ≡ Ok (drafted graph.new)) }
-    ensures refused { IfErr result (IsRefused (step_in (connect_step (items_view blocks.now)) number (drafted graph.old) (as_table (view value.now)))) }
-    ensures memory { IsErrOf result FileFault.Memory → TakesIn (ConnectTakes (items_view blocks.now)) number (drafted graph.old) (as_table (view value.now)) }
+    ensures ok { OnOk result (step_in (connect_step (items_view blocks.now)) number (drafted graph.old)
+        (as_table (view value.now)) ≡ Ok (drafted graph.new)) }
+    ensures refused { IfErr result (IsRefused (step_in (connect_step (items_view blocks.now)) number (drafted graph.old)
+        (as_table (view value.now)))) }
+    ensures memory { IsErrOf result FileFault.Memory → TakesIn (ConnectTakes (items_view blocks.now)) number
+        (drafted graph.old) (as_table (view value.now)) }
 {
     match value.as_table() {
         Some(table) => connect(graph, blocks, number, table),
@@ -57,9 +63,12 @@ fn connect(
     number: usize,
     table: &Table,
 ) -> Result<(), FileFault>
-    ensures ok { OnOk result (connect_step (items_view blocks.now) number (drafted graph.old) (table_view table.now) ≡ Ok (drafted graph.new)) }
-    ensures refused { IfErr result (IsRefused (connect_step (items_view blocks.now) number (drafted graph.old) (table_view table.now))) }
-    ensures memory { IsErrOf result FileFault.Memory → ConnectTakes (items_view blocks.now) number (drafted graph.old) (table_view table.now) }
+    ensures ok { OnOk result (connect_step (items_view blocks.now) number (drafted graph.old) (table_view table.now)
+        ≡ Ok (drafted graph.new)) }
+    ensures refused { IfErr result (IsRefused (connect_step (items_view blocks.now) number (drafted graph.old)
+        (table_view table.now))) }
+    ensures memory { IsErrOf result FileFault.Memory → ConnectTakes (items_view blocks.now) number (drafted graph.old)
+        (table_view table.now) }
 {
     let place = FilePlace::Connect(number);
     let known = [Key::From, Key::To, Key::FromPort, Key::ToPort];
@@ -92,9 +101,11 @@ fn join(
     from: u32,
     to: u32,
 ) -> Result<(), FileFault>
-    ensures ok { OnOk result (joined number (drafted graph.old) (table_view table.now) from to ≡ Ok (drafted graph.new)) }
+    ensures ok { OnOk result (joined number (drafted graph.old) (table_view table.now) from to
+        ≡ Ok (drafted graph.new)) }
     ensures refused { IfErr result (IsRefused (joined number (drafted graph.old) (table_view table.now) from to)) }
-    ensures memory { IsErrOf result FileFault.Memory → IsOk (joined number (drafted graph.old) (table_view table.now) from to) }
+    ensures memory { IsErrOf result FileFault.Memory → IsOk (joined number (drafted graph.old) (table_view table.now)
+        from to) }
 {
     let out_port = count_at(table, Key::FromPort) as usize;
     let in_port = count_at(table, Key::ToPort) as usize;

@@ -38,9 +38,12 @@ fn add_value(
     number: usize,
     value: &Value,
 ) -> Result<(), FileFault>
-    ensures ok { OnOk result (step_in feed_step number (map fed feeds.old.items) (as_table (view value.now)) ≡ Ok (map fed feeds.new.items)) }
-    ensures refused { IfErr result (IsRefused (step_in feed_step number (map fed feeds.old.items) (as_table (view value.now)))) }
-    ensures memory { IsErrOf result FileFault.Memory → TakesIn FeedTakes number (map fed feeds.old.items) (as_table (view value.now)) }
+    ensures ok { OnOk result (step_in feed_step number (map fed feeds.old.items) (as_table (view value.now))
+        ≡ Ok (map fed feeds.new.items)) }
+    ensures refused { IfErr result (IsRefused (step_in feed_step number (map fed feeds.old.items)
+        (as_table (view value.now)))) }
+    ensures memory { IsErrOf result FileFault.Memory → TakesIn FeedTakes number (map fed feeds.old.items)
+        (as_table (view value.now)) }
 {
     match value.as_table() {
         Some(table) => add_feed(alloc, feeds, number, table),
@@ -55,9 +58,11 @@ fn add_feed(
     number: usize,
     table: &Table,
 ) -> Result<(), FileFault>
-    ensures ok { OnOk result (feed_step number (map fed feeds.old.items) (table_view table.now) ≡ Ok (map fed feeds.new.items)) }
+    ensures ok { OnOk result (feed_step number (map fed feeds.old.items) (table_view table.now)
+        ≡ Ok (map fed feeds.new.items)) }
     ensures refused { IfErr result (IsRefused (feed_step number (map fed feeds.old.items) (table_view table.now))) }
-    ensures memory { IsErrOf result FileFault.Memory → FeedTakes number (map fed feeds.old.items) (table_view table.now) }
+    ensures memory { IsErrOf result FileFault.Memory → FeedTakes number (map fed feeds.old.items)
+        (table_view table.now) }
 {
     match read_feed(alloc, number, table) {
         Ok(feed) => Ok(feeds.push(feed)?),

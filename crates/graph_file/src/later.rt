@@ -31,7 +31,8 @@ pub fn open_later(
     firings: &[u32],
     iterations: u64,
 ) -> Result<StreamingPlant<Kind>, FileFault>
-    ensures later { IfOk result (λ p. HasGoneOn (net_of meaning_of graph.now) firings.now (looks_of look_back_of graph.now) iterations (net_of meaning_of p.plant.graph)) }
+    ensures later { IfOk result (λ p. HasGoneOn (net_of meaning_of graph.now) firings.now
+        (looks_of look_back_of graph.now) iterations (net_of meaning_of p.plant.graph)) }
     ensures opens { IfOk result (λ p. p.plant ≡ streaming_opening meaning_of p.plant.graph) }
     ensures none { IfOk result (λ p. ForgetsNone p.kept) }
     ensures refused { IsUtf8 text.now → IfErr result (IsRefused (meanings_of (parse_document text.now))) }

@@ -10,7 +10,8 @@ use toml::Table;
 
 /// What is wrong with a table that may have only the known keys, up to the last tested key.
 pub(crate) fn only_fault(table: &Table, known: &[Key], tested: &[Key]) -> Option<KeyFault>
-    ensures { result ≡ connections.only_fault (tables.has_only known.now (table_view table.now)) (tables.keys_fault (table_view table.now) tested.now) }
+    ensures { result ≡ connections.only_fault (tables.has_only known.now (table_view table.now))
+        (tables.keys_fault (table_view table.now) tested.now) }
 {
     if has_only(table, known) {
         keys_fault(table, tested)

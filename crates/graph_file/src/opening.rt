@@ -66,7 +66,8 @@ fn plant_fed<P: TakesFeeds>(
     graph: Valid<Kind>,
     feeds: &[Feed],
 ) -> Result<P, FileFault>
-    ensures ok { IfOk result (λ p. opened_with P.longest (drafted graph) (map fed feeds.now) ≡ Ok (opened_of (P.plant p))) }
+    ensures ok { IfOk result (λ p. opened_with P.longest (drafted graph) (map fed feeds.now)
+        ≡ Ok (opened_of (P.plant p))) }
     ensures whole { IfOk result P.whole }
     ensures refused { IfErr result (IsRefused (opened_with P.longest (drafted graph) (map fed feeds.now))) }
 {
@@ -109,10 +110,12 @@ fn named_block(fault: GraphFault) -> Option<BlockId>
 
 // Feeds a plant, in order, up to the first feed that is refused.
 fn take_feeds<P: TakesFeeds>(alloc: Global, plant: &mut P, feeds: &[Feed]) -> Result<(), FileFault>
-    ensures ok { let old = P.plant plant.old in OnOk result (after_feeds (drafted old.graph) 0 old.state (map fed feeds.now) ≡ Ok (P.plant plant.new).state) }
+    ensures ok { let old = P.plant plant.old in OnOk result (after_feeds (drafted old.graph) 0 old.state
+        (map fed feeds.now) ≡ Ok (P.plant plant.new).state) }
     ensures rest { OnOk result (P.plant plant.new ≡ record (P.plant plant.old) { state = (P.plant plant.new).state }) }
     ensures whole { OnOk result (P.whole plant.old → P.whole plant.new) }
-    ensures refused { let old = P.plant plant.old in IfErr result (IsRefused (after_feeds (drafted old.graph) 0 old.state (map fed feeds.now))) }
+    ensures refused { let old = P.plant plant.old in IfErr result (IsRefused
+        (after_feeds (drafted old.graph) 0 old.state (map fed feeds.now))) }
 {
     for (number, feed) in feeds.iter().enumerate() {
         if let Err(fault) = take_feed(alloc, plant, number, feed) {
@@ -129,11 +132,14 @@ fn take_feed<P: TakesFeeds>(
     number: usize,
     feed: &Feed,
 ) -> Result<(), FileFault>
-    ensures ok { let old = P.plant plant.old in OnOk result (after_feed number (feed_now (drafted old.graph) old.state (fed feed.now)) ≡ Ok (P.plant plant.new).state) }
+    ensures ok { let old = P.plant plant.old in OnOk result (after_feed number
+        (feed_now (drafted old.graph) old.state (fed feed.now)) ≡ Ok (P.plant plant.new).state) }
     ensures rest { OnOk result (P.plant plant.new ≡ record (P.plant plant.old) { state = (P.plant plant.new).state }) }
     ensures whole { OnOk result (P.whole plant.old → P.whole plant.new) }
-    ensures refused { let old = P.plant plant.old in IfErr result (IsRefused (after_feed number (feed_now (drafted old.graph) old.state (fed feed.now)))) }
-    ensures memory { let old = P.plant plant.old in IsErrOf result FileFault.Memory → FeedCopies (drafted old.graph) old.state (fed feed.now) }
+    ensures refused { let old = P.plant plant.old in IfErr result (IsRefused
+        (after_feed number (feed_now (drafted old.graph) old.state (fed feed.now)))) }
+    ensures memory { let old = P.plant plant.old in IsErrOf result FileFault.Memory
+        → FeedCopies (drafted old.graph) old.state (fed feed.now) }
 {
     let Some(source) = plant.graph().find(&feed.source) else {
         return Err(feed_fault(number, PlantFault::NoSuchBlock));

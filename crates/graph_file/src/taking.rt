@@ -34,7 +34,8 @@ pub(crate) trait TakesFeeds: Drop + Sized {
 
     /// The plant of a graph, with nothing fed and nothing fired.
     fn open(alloc: Global, graph: Valid<Kind>) -> Result<Self, FileFault>
-        ensures opens { IfOk result (λ p. plant p ≡ opening_plant_within (longest (net_of meaning_of graph)) meaning_of graph) }
+        ensures opens { IfOk result (λ p. plant p ≡ opening_plant_within (longest (net_of meaning_of graph)) meaning_of
+            graph) }
         ensures whole { IfOk result whole }
         ensures memory { IfErr result (λ fault. fault ≡ FileFault.Memory) };
 
@@ -54,7 +55,9 @@ pub(crate) trait TakesFeeds: Drop + Sized {
         numbers: &[i64],
         marks: &[Mark],
     ) -> Result<Fed, PlantFault>
-        ensures answered { Answered (feed_numbers (net_of meaning_of (plant self.old).graph) (plant self.old).state source.0 numbers.now (map mark_of marks.now)) (plant self.old) (plant self.new) (reply_of (λ f. machine.Fed f.0) result) }
+        ensures answered { Answered (feed_numbers (net_of meaning_of (plant self.old).graph) (plant self.old).state
+            source.0 numbers.now (map mark_of marks.now)) (plant self.old) (plant self.new)
+            (reply_of (λ f. machine.Fed f.0) result) }
         ensures whole { whole self.old → whole self.new };
 }
 

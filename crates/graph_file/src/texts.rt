@@ -67,7 +67,8 @@ pub(crate) fn negative_text<'a>(
     side: Side,
     port: i64,
 ) -> RefusalText<'a>
-    ensures { refusal_text result ≡ head (row.entry.0, row.entry.1.now) ++ texts.negative_rest place name.now side port }
+    ensures { refusal_text result ≡ head (row.entry.0, row.entry.1.now)
+        ++ texts.negative_rest place name.now side port }
 {
     let port = TextPart::Signed(port);
     let rest = if name.is_empty() {
@@ -120,7 +121,8 @@ fn ported(name: &str, port: usize) -> [TextPart<'_>; 6]
 
 // The name of a block, the side of a port and the port.
 fn sided<'a>(name: &'a str, side: Side, port: TextPart<'a>) -> [TextPart<'a>; 6]
-    ensures { flat_map part_text result ≡ codes " " ++ name.now ++ codes " " ++ side_text side ++ codes " " ++ part_text port.entry }
+    ensures { flat_map part_text result ≡ codes " " ++ name.now ++ codes " " ++ side_text side ++ codes " "
+        ++ part_text port.entry }
 {
     [
         SPACE,
@@ -134,7 +136,8 @@ fn sided<'a>(name: &'a str, side: Side, port: TextPart<'a>) -> [TextPart<'a>; 6]
 
 // A place, the side of a port and the port.
 fn placed_sided<'a>(place: FilePlace, side: Side, port: TextPart<'a>) -> [TextPart<'a>; 6]
-    ensures { flat_map part_text result ≡ codes " " ++ texts.place_text place ++ codes " " ++ side_text side ++ codes " " ++ part_text port.entry }
+    ensures { flat_map part_text result ≡ codes " " ++ texts.place_text place ++ codes " " ++ side_text side
+        ++ codes " " ++ part_text port.entry }
 {
     let (table, number) = place_parts(place);
     // (with the spaces around it, since there are six parts)

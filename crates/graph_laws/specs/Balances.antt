@@ -11,7 +11,8 @@ pub record KeepsCounts (net : Network) (q : List ℕ) : Type 0 where
   pub firings : (b : ℕ) → b < length net.nodes → slice_index q b ≤ count_limit
   pub items : (b : ℕ) → b < length net.nodes → slice_index q b * gives (node_at net b) ≤ count_limit
 
--- all first items that are left out are past within so many iterations, and no step takes a writer further ahead of its reader than the limit
+-- all first items that are left out are past within so many iterations, and no step takes a writer further ahead of its
+-- reader than the limit
 pub record KeepsSizes (net : Network) (q : List ℕ) : Type 0 where
   pub iterations : ℕ
   pub few : iterations ≤ count_limit
@@ -24,11 +25,12 @@ pub record IsTooFar (net : Network) : Type 0 where
   pub least : IsLeastBalanced net firings
   pub beyond : ¬ (KeepsSizes net firings)
 
--- the answer on rates is right: it is a balance exactly where that is the least one and within the limits; there is none where the answer is
--- that the rates are uneven; and where it is that they are too large, no balance keeps the limits on counts, or the least one is beyond
--- those on sizes
+-- the answer on rates is right: it is a balance exactly where that is the least one and within the limits; there is
+-- none where the answer is that the rates are uneven; and where it is that they are too large, no balance keeps the
+-- limits on counts, or the least one is beyond those on sizes
 pub record IsRightAnswer (net : Network) : Type 0 where
-  pub balanced : (q : List ℕ) → (balance_of net ≡ Balanced q) ↔ (IsLeastBalanced net q × KeepsCounts net q × KeepsSizes net q)
+  pub balanced : (q : List ℕ) → (balance_of net ≡ Balanced q) ↔ (IsLeastBalanced net q × KeepsCounts net q
+      × KeepsSizes net q)
   pub uneven : balance_of net ≡ Uneven → (r : List ℕ) → ¬ (IsBalanced net r)
   pub too_large : balance_of net ≡ TooLarge → (r : List ℕ) → IsBalanced net r → KeepsCounts net r → IsTooFar net
 

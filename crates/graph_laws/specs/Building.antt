@@ -16,5 +16,7 @@ with_connection net c = record { nodes = net.nodes; connections = net.connection
 -- the empty graph is in order, and what adding and connecting do not refuse leaves a graph so
 pub record BuildingKeeps : Type 0 where
   pub empty_is : IsGraph [] empty
-  pub adding : (names : List (List ℕ)) (net : Network) (name : List ℕ) (n : Node) → IsGraph names net → add_fault names net name n ≡ None → IsGraph (names ++ name ∷ []) (with_block net n)
-  pub connecting : (names : List (List ℕ)) (net : Network) (c : Connection) → IsGraph names net → connect_fault net c ≡ None → IsGraph names (with_connection net c)
+  pub adding : (names : List (List ℕ)) (net : Network) (name : List ℕ) (n : Node) → IsGraph names net
+      → add_fault names net name n ≡ None → IsGraph (names ++ name ∷ []) (with_block net n)
+  pub connecting : (names : List (List ℕ)) (net : Network) (c : Connection) → IsGraph names net → connect_fault net c
+      ≡ None → IsGraph names (with_connection net c)

@@ -50,13 +50,16 @@ pub record IsSteep (net : Network) (block : ℕ) : Type 0 where
   pub joins : IsWalk net start block path
   pub above : most_gain < gain_along net start path
 
--- what a refusal of a graph means; each test has passed all blocks before the next. The other refusals are of adding and connecting
+-- what a refusal of a graph means; each test has passed all blocks before the next. The other refusals are of adding
+-- and connecting
 abbrev pub Means : Network → GraphFault → Type 0
 Means net (PortGap b s p) = IsLowest net (HasGap net) b × IsFirstGap net b s p
 Means net (TooFewPorts b) = Nowhere net (HasGap net) × IsLowest net (HasFew net) b
 Means net (OneToOne b) = Nowhere net (HasGap net) × Nowhere net (HasFew net) × IsLowest net (IsUnequal net) b
-Means net (Loop b) = Nowhere net (HasGap net) × Nowhere net (HasFew net) × Nowhere net (IsUnequal net) × IsLowest net (IsLooped net) b
-Means net (Gain b) = Nowhere net (HasGap net) × Nowhere net (HasFew net) × Nowhere net (IsUnequal net) × Nowhere net (IsLooped net) × IsLowest net (IsSteep net) b
+Means net (Loop b) = Nowhere net (HasGap net) × Nowhere net (HasFew net) × Nowhere net (IsUnequal net)
+    × IsLowest net (IsLooped net) b
+Means net (Gain b) = Nowhere net (HasGap net) × Nowhere net (HasFew net) × Nowhere net (IsUnequal net)
+    × Nowhere net (IsLooped net) × IsLowest net (IsSteep net) b
 Means net DuplicateName = ⊥
 Means net UnknownBlock = ⊥
 Means net (PortRange b s p) = ⊥

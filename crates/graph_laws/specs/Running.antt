@@ -10,6 +10,8 @@ use Rattle.graph_model.specs.Graphs.{IsValidGraph}
 abbrev pub AreLawful : Network → Type 0
 AreLawful net = All (λ (n : Node). IsLawful n.meaning) net.nodes
 
--- a valid graph of lawful blocks is what the laws of streams and of the machine ask for, and what the counts of its rates do
+-- a valid graph of lawful blocks is what the laws of streams and of the machine ask for, and what the counts of its
+-- rates do
 abbrev pub ValidGraphsRun : Type 0
-ValidGraphsRun = (names : List (List ℕ)) (net : Network) → IsValidGraph names net → AreLawful net → CanRun net × CanCount net
+ValidGraphsRun = (names : List (List ℕ)) (net : Network) → IsValidGraph names net → AreLawful net → CanRun net
+    × CanCount net

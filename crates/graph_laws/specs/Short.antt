@@ -20,5 +20,6 @@ pub record IsShort (net : Network) (hs : List Handed) (b : ℕ) : Type 0 where
 abbrev pub StreamsAreShort : Type 0
 StreamsAreShort =
     (names : List (List ℕ)) (net : Network) → IsValidGraph names net → AreLawful net →
-    (hs : List Handed) → AreWithinGain net hs → ((b : ℕ) → b < length net.nodes → length (handed_at hs b).tape ≤ (handed_at hs b).longest) →
+    (hs : List Handed) → AreWithinGain net hs → ((b : ℕ) → b < length net.nodes
+    → length (handed_at hs b).tape ≤ (handed_at hs b).longest) →
     (b : ℕ) → b < length net.nodes → IsShort net hs b

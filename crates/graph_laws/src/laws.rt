@@ -8,7 +8,8 @@ ghost use Rattle.graph_laws.specs.Running.{ValidGraphsRun};
 ghost use Rattle.graph_laws.specs.Short.{StreamsAreShort};
 ghost use Rattle.graph_laws.specs.Tables.{TablesCompute};
 
-/// A graph that is built by what is not refused keeps the limits, the ports that there are, one writer of each input and the types.
+/// A graph that is built by what is not refused keeps the limits, the ports that there are, one writer of each input
+/// and the types.
 pub fn building_keeps()
     ensures { BuildingKeeps }
 {}
@@ -28,18 +29,20 @@ pub fn answers_are_right()
     ensures { AnswersAreRight }
 {}
 
-/// Tables that take each block's entry from those of its writers hold the counts of firings and the products of interpolations.
+/// Tables that take each block's entry from those of its writers hold the counts of firings and the products of
+/// interpolations.
 pub fn tables_compute()
     ensures { TablesCompute }
 {}
 
-/// A tape of 4,294,967,296 items fits any valid graph: no path makes more than 2 to the 61st of it. The longest that fits by the graph's own
-/// gain has at least 2 to the 37th.
+/// A tape of 4,294,967,296 items fits any valid graph: no path makes more than 2 to the 61st of it. The longest that
+/// fits by the graph's own gain has at least 2 to the 37th.
 pub fn valid_graphs_fit()
     ensures { ValidGraphsFit }
 {}
 
-/// Where tapes fit a valid graph, no stream of it, no count of base firings and no place of a tag is above 2 to the 62nd.
+/// Where tapes fit a valid graph, no stream of it, no count of base firings and no place of a tag is above 2 to the
+/// 62nd.
 pub fn streams_are_short()
     ensures { StreamsAreShort }
 {}

@@ -1,5 +1,5 @@
--- Valid graphs: networks whose blocks have names, within limits and with the ports that the blocks ask for. Where nothing else is said
--- the rules are own; ports and their types are those of the GNU Radio manual (io_signature).
+-- Valid graphs: networks whose blocks have names, within limits and with the ports that the blocks ask for. Where
+-- nothing else is said the rules are own; ports and their types are those of the GNU Radio manual (io_signature).
 use Rattle.std.specs.Prelude.{◌≡◌, ◌≢◌, ℕ, zero, suc, ◌+◌, ◌-◌, ◌*◌, ◌/◌, ◌^◌, ◌<◌, ◌≤◌, min, max, List, [], ◌∷◌, length, map, filter, filter_map, find, All, AllPairs, Contains, Option, Some, None, is_some, is_none, option_map, Bool, true, false, ◌&&◌, ◌||◌, not, nat_le, nat_lt, ◌==◌, if◌then◌else◌, slice_get, bytes_eq}
 use Rattle.std.specs.Char.{is_ascii_alphanumeric}
 use Rattle.std.specs.List.{list_all, list_any}
@@ -14,8 +14,8 @@ use Rattle.stream_model.specs.Network.{Node, Connection, Network, HasLevels, nod
 use Rattle.stream_model.specs.Numbers.{types_agree}
 use Rattle.graph_model.specs.Rates.{greatest_of}
 
--- the limits of a graph: blocks, connections, ports on a side of a block, bytes of a name, base firings in one, items of a configured
--- capacity, and the product of the gains of the blocks along a path
+-- the limits of a graph: blocks, connections, ports on a side of a block, bytes of a name, base firings in one, items
+-- of a configured capacity, and the product of the gains of the blocks along a path
 abbrev pub most_blocks : ℕ
 most_blocks = 256
 
@@ -39,7 +39,8 @@ most_gain = 2 ^ 24
 
 -- a name is of letters, digits, `_`, `.` and `-`, and not empty
 abbrev pub is_name : List ℕ → Bool
-is_name s = nat_le 1 (length s) && nat_le (length s) most_name && list_all (λ c. is_ascii_alphanumeric c || c == 95 || c == 46 || c == 45) s
+is_name s = nat_le 1 (length s) && nat_le (length s) most_name && list_all
+    (λ c. is_ascii_alphanumeric c || c == 95 || c == 46 || c == 45) s
 
 -- how many base firings one firing may have: 1 for sources and sinks, and for blocks with a limit or without a rate
 abbrev pub is_work : Role → Bool
@@ -113,7 +114,8 @@ gain_along net a (c ∷ cs) = block_gain net a * gain_along net c.to cs
 -- As many turns as there are blocks reach each block
 abbrev pub level_by : ℕ → Network → ℕ → ℕ
 level_by zero net b = 0
-level_by (suc turns) net b = greatest_of (map (λ c. suc (level_by turns net c.from)) (filter (λ c. c.to == b) net.connections))
+level_by (suc turns) net b = greatest_of (map (λ c. suc (level_by turns net c.from))
+    (filter (λ c. c.to == b) net.connections))
 
 abbrev pub level_of : Network → ℕ → ℕ
 level_of net b = level_by (length net.nodes) net b
@@ -128,19 +130,22 @@ pub record IsGraph (names : List (List ℕ)) (net : Network) : Type 0 where
   pub multiple : All (λ n. (1 ≤ n.multiple) × (n.multiple ≤ multiples n.meaning)) net.nodes
   pub capacity : All (λ n. (1 ≤ n.capacity) × (n.capacity ≤ most_capacity)) net.nodes
   pub ends : All (λ c. (c.from < length net.nodes) × (c.to < length net.nodes)) net.connections
-  pub ports : All (λ c. (has_port (node_at net c.from) Out c.out_port ≡ true) × (has_port (node_at net c.to) In c.in_port ≡ true)) net.connections
+  pub ports : All (λ c. (has_port (node_at net c.from) Out c.out_port ≡ true)
+      × (has_port (node_at net c.to) In c.in_port ≡ true)) net.connections
   pub one_writer : AllPairs (λ c d. ¬ ((c.to ≡ d.to) × (c.in_port ≡ d.in_port))) net.connections
   pub types : All (λ c. same_type net c ≡ true) net.connections
 
--- a valid graph: also without gaps in the used ports, with as many as the blocks ask for, with tags from one port to one port only where
--- used inputs and outputs are equally many, without loops, and with no path that multiplies its items too much
+-- a valid graph: also without gaps in the used ports, with as many as the blocks ask for, with tags from one port to
+-- one port only where used inputs and outputs are equally many, without loops, and with no path that multiplies its
+-- items too much
 pub record IsValidGraph (names : List (List ℕ)) (net : Network) : Type 0 where
   pub graph : IsGraph names net
   pub no_gap : (b : ℕ) (s : Side) (p : ℕ) → p < ports_to net b s → is_used net b s p ≡ true
   pub enough : (b : ℕ) (s : Side) → b < length net.nodes → (signature_of (node_at net b) s).least ≤ ports_to net b s
   pub one_to_one : (b : ℕ) → (node_at net b).policy ≡ policy.One → ports_to net b In ≡ ports_to net b Out
   pub levels : HasLevels net (level_of net)
-  pub gain : (a b : ℕ) (cs : List Connection) → a < length net.nodes → IsWalk net a b cs → gain_along net a cs ≤ most_gain
+  pub gain : (a b : ℕ) (cs : List Connection) → a < length net.nodes → IsWalk net a b cs
+      → gain_along net a cs ≤ most_gain
 
 -- the refusals, with their numbers, and the block that each names
 pub data GraphFault : Type 0 where
@@ -195,7 +200,8 @@ abbrev pub gap_of : Network → ℕ → Side → Option ℕ
 gap_of net b s = find (λ p. not (is_used net b s p)) (below (ports_to net b s))
 
 abbrev pub gap_fault : Network → ℕ → Option GraphFault
-gap_fault net b = first_fault (option_map (PortGap b In) (gap_of net b In) ∷ option_map (PortGap b Out) (gap_of net b Out) ∷ [])
+gap_fault net b = first_fault (option_map (PortGap b In) (gap_of net b In) ∷ option_map (PortGap b Out)
+    (gap_of net b Out) ∷ [])
 
 abbrev pub has_few : Network → ℕ → Side → Bool
 has_few net b s = nat_lt (ports_to net b s) (signature_of (node_at net b) s).least
@@ -208,12 +214,14 @@ is_one policy.One = true
 -- a block reaches another by one to so many connections
 abbrev pub reaches_by : ℕ → Network → ℕ → ℕ → Bool
 reaches_by zero net a b = false
-reaches_by (suc turns) net a b = list_any (λ c. c.to == b || reaches_by turns net c.to b) (filter (λ c. c.from == a) net.connections)
+reaches_by (suc turns) net a b = list_any (λ c. c.to == b || reaches_by turns net c.to b)
+    (filter (λ c. c.from == a) net.connections)
 
 -- the greatest product of gains along a path that ends at block b, its own included
 abbrev pub gain_by : ℕ → Network → ℕ → ℕ
 gain_by zero net b = block_gain net b
-gain_by (suc turns) net b = block_gain net b * greatest_of (1 ∷ map (λ c. gain_by turns net c.from) (filter (λ c. c.to == b) net.connections))
+gain_by (suc turns) net b = block_gain net b * greatest_of (1 ∷ map (λ c. gain_by turns net c.from)
+    (filter (λ c. c.to == b) net.connections))
 
 -- the lowest block that a test refuses
 abbrev pub lowest : Network → (ℕ → Bool) → (ℕ → GraphFault) → Option GraphFault

@@ -18,7 +18,8 @@ pub trait AppendWork {
     fn append<T: SimdLane>(&self, items: &[T], count: usize, out: &mut Vec<T>)
         requires can { can_make self.now T.kind (map T.number items.now) count }
         requires room { vec_len out.old + count ≤ vec_capacity out.old }
-        ensures items { map T.number out.new.items ≡ map T.number out.old.items ++ makes self.now T.kind (map T.number items.now) count }
+        ensures items { map T.number out.new.items ≡ map T.number out.old.items
+            ++ makes self.now T.kind (map T.number items.now) count }
         ensures capacity { vec_capacity out.old ≤ vec_capacity out.new };
 }
 

@@ -55,7 +55,8 @@ pub trait InputWork {
     fn append<T: SimdLane>(&self, inputs: &[&[T]], count: usize, out: &mut Vec<T>)
         requires can { can_make self.now T.kind (map (λ x. map T.number x.now) inputs.now) count }
         requires room { vec_len out.old + count ≤ vec_capacity out.old }
-        ensures items { map T.number out.new.items ≡ map T.number out.old.items ++ makes self.now T.kind (map (λ x. map T.number x.now) inputs.now) count }
+        ensures items { map T.number out.new.items ≡ map T.number out.old.items
+            ++ makes self.now T.kind (map (λ x. map T.number x.now) inputs.now) count }
         ensures capacity { vec_capacity out.old ≤ vec_capacity out.new };
 }
 

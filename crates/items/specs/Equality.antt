@@ -13,4 +13,5 @@ items_eq a b = types_agree (type_of a) (type_of b) && pointwise int_eq (numbers_
 
 -- the law of `Eq`
 pub items_eq_equiv : IsEquivalence items_eq
-items_eq_equiv = and_equiv (on_equiv (λ a. bits_of (type_of a)) nat_eq_equiv) (on_equiv numbers_of (lists_equiv int_eq_equiv))
+items_eq_equiv = and_equiv (on_equiv (λ a. bits_of (type_of a)) nat_eq_equiv)
+    (on_equiv numbers_of (lists_equiv int_eq_equiv))

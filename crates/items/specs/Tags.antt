@@ -22,8 +22,10 @@ tag_order-total = on_total tag_of tag_total
 
 -- and that it does not distinguish what is equal
 abbrev pub tag_eq : Tag → Tag → Bool
-tag_eq a b = nat_eq a.offset b.offset && (pointwise nat_eq a.key b.key && (int_eq a.value b.value && nat_eq a.source b.source))
+tag_eq a b = nat_eq a.offset b.offset && (pointwise nat_eq a.key b.key &&
+    (int_eq a.value b.value && nat_eq a.source b.source))
 
 pub tag_order-ties : (a b : Tag) → tag_eq a b ≡ eq_by_cmp tag_order a b
 tag_order-ties a b =
-    both_tied _ _ _ _ (unsigned_ties a.offset b.offset) (both_tied _ _ _ _ (texts_ties a.key b.key) (both_tied _ _ _ _ refl (unsigned_ties a.source b.source)))
+    both_tied _ _ _ _ (unsigned_ties a.offset b.offset) (both_tied _ _ _ _ (texts_ties a.key b.key)
+    (both_tied _ _ _ _ refl (unsigned_ties a.source b.source)))

@@ -76,8 +76,8 @@ impl Items {
         of_type!(t, Vec::new(alloc))
     }
 
-    /// The items of these numbers. `ItemRange` where one lies outside the type's range, before any memory is asked for; `Memory` only where the
-    /// allocator refuses, and not without numbers.
+    /// The items of these numbers. `ItemRange` where one lies outside the type's range, before any memory is asked for;
+    /// `Memory` only where the allocator refuses, and not without numbers.
     #[tactic(auto, using(crate::proofs::Numbers::map_same))]
     pub fn from_numbers(alloc: Global, t: ItemType, numbers: &[i64]) -> Result<Items, ItemFault>
         ensures item_type { IfOk result (λ items. type_of items ≡ t) }
@@ -143,7 +143,8 @@ impl Items {
         on_type!(self, values => are_in_range(values))
     }
 
-    /// Makes room for `n` more items, with new memory where fewer fit. It fails only where the allocator refuses, and then changes nothing.
+    /// Makes room for `n` more items, with new memory where fewer fit. It fails only where the allocator refuses, and
+    /// then changes nothing.
     pub fn reserve(&mut self, n: usize) -> Result<(), AllocError>
         ensures item_type { type_of self.new ≡ type_of self.old }
         ensures numbers { numbers_of self.new ≡ numbers_of self.old }
@@ -192,8 +193,9 @@ impl Items {
         on_type!(self, values => append_copies(values, n, 0))
     }
 
-    /// A copy of the items from place `from` to below place `to`. `ItemRange` where `to` is below `from` or above the number of items, before any
-    /// memory is asked for; `Memory` only where the allocator refuses, and not for no items.
+    /// A copy of the items from place `from` to below place `to`. `ItemRange` where `to` is below `from` or above the
+    /// number of items, before any memory is asked for; `Memory` only where the allocator refuses, and not for no
+    /// items.
     #[tactic(auto, using(crate::proofs::Numbers::map_slice_range))]
     pub fn slice(&self, alloc: Global, from: usize, to: usize) -> Result<Items, ItemFault>
         ensures item_type { IfOk result (λ items. type_of items ≡ type_of self.now) }
@@ -237,7 +239,8 @@ impl PartialEq for Items {
 
     fn eq(&self, other: &Items) -> bool
         ensures value { result ≡ items_eq self.now other.now }
-        ensures exact { IsTrue result ↔ ((type_of self.now ≡ type_of other.now) × (numbers_of self.now ≡ numbers_of other.now)) }
+        ensures exact { IsTrue result ↔ ((type_of self.now ≡ type_of other.now)
+            × (numbers_of self.now ≡ numbers_of other.now)) }
     {
         on_same_type!(self, other, (values, more) => values == more, false)
     }

@@ -25,7 +25,8 @@ divisor-divides : (a b most : ℕ) → IsDivisor a b (divisor_up_to a b most)
 divisor-divides a b zero = record { some = omega arith; first = omega arith; second = omega arith }
 divisor-divides a b (suc d) = choose (divisor-divides a b d) ((a % suc d == 0) && (b % suc d == 0)) refl
   where
-    choose : IsDivisor a b (divisor_up_to a b d) → (c : Bool) → ((a % suc d == 0) && (b % suc d == 0)) ≡ c → IsDivisor a b (if c then suc d else divisor_up_to a b d)
+    choose : IsDivisor a b (divisor_up_to a b d) → (c : Bool) → ((a % suc d == 0) && (b % suc d == 0)) ≡ c
+        → IsDivisor a b (if c then suc d else divisor_up_to a b d)
     choose below true e =
         let none : a % suc d ≡ 0 = grind (arith, nat_tests) in
         let no_more : b % suc d ≡ 0 = grind (arith, nat_tests) in
@@ -37,7 +38,8 @@ common-divides a b = divisor-divides a b a
 
 -- the items that a firing takes have as many bits as those that it gives
 pub same_bits : (k l : ℕ) → l / common_divisor k l * k ≡ k / common_divisor k l * l
-same_bits k l = turned (common_divisor k l) (l / common_divisor k l) (k / common_divisor k l) k l (common-divides k l).first (common-divides k l).second
+same_bits k l = turned (common_divisor k l) (l / common_divisor k l) (k / common_divisor k l) k l
+    (common-divides k l).first (common-divides k l).second
   where
     turned : (d q r k l : ℕ) → r * d ≡ k → q * d ≡ l → q * k ≡ r * l
     turned d q r k l whole more = rw (← whole, ← more) (grind arith)
@@ -64,13 +66,16 @@ bit_of_firing d i k l c n b some same before within =
 
 -- the same items of streams whose items agree where their bits stand
 repacked-same :
-    (t : ItemType) (k l : ℕ) (o p : BitOrder) (x y : List ℤ) (n : ℕ) → ((b : ℕ) → n * l ≤ b → b < n * l + l → item x (b / k) ≡ item y (b / k)) →
+    (t : ItemType) (k l : ℕ) (o p : BitOrder) (x y : List ℤ) (n : ℕ)
+    → ((b : ℕ) → n * l ≤ b → b < n * l + l → item x (b / k) ≡ item y (b / k)) →
     repacked t k l o p x n ≡ repacked t k l o p y n
 repacked-same t k l o p x y n same =
     ap (λ z. wrap t (pos (number_by p z)))
-    (map-same (stream_bit o k x) (stream_bit o k y) (n * l) l (λ b from to. ap (λ z. residue z (2 ^ k) / 2 ^ place_by o k (b % k) % 2) (same b from to)))
+    (map-same (stream_bit o k x) (stream_bit o k y) (n * l) l (λ b from to. ap
+    (λ z. residue z (2 ^ k) / 2 ^ place_by o k (b % k) % 2) (same b from to)))
 
-pub repacking-lawful : (t : ItemType) (k l : ℕ) (o p : BitOrder) → 1 ≤ k → k ≤ 32 → 1 ≤ l → l ≤ 32 → IsLawful (repacking t k l o p)
+pub repacking-lawful : (t : ItemType) (k l : ℕ) (o p : BitOrder) → 1 ≤ k → k ≤ 32 → 1 ≤ l → l ≤ 32
+    → IsLawful (repacking t k l o p)
 repacking-lawful t k l o p some few some_out few_out =
     shaped-lawful _ _ _ _ _ _ _ _ _ _ rate (omega arith) (omega arith) refl (λ ts xs. refl)
     (λ ts xs port n h. IsItem-wrap t _)
@@ -92,7 +97,8 @@ repacking-lawful t k l o p some few some_out few_out =
         }
 
 pub repack_bits-lawful : (k l : ℕ) (o : BitOrder) → 1 ≤ k → k ≤ 8 → 1 ≤ l → l ≤ 8 → IsLawful (repack_bits k l o)
-repack_bits-lawful k l o some few some_out few_out = repacking-lawful Byte k l o o some (omega arith) some_out (omega arith)
+repack_bits-lawful k l o some few some_out few_out = repacking-lawful Byte k l o o some (omega arith) some_out
+    (omega arith)
 
 -- a type has 8 to 32 bits
 pub bits_some : (t : ItemType) → 1 ≤ bits_of t
@@ -105,24 +111,30 @@ bits_few Byte = omega arith
 bits_few Short = omega arith
 bits_few Int = omega arith
 
-pub packed_to_unpacked-lawful : (t : ItemType) (bits : ℕ) (o : BitOrder) → 1 ≤ bits → bits ≤ bits_of t → IsLawful (packed_to_unpacked t bits o)
+pub packed_to_unpacked-lawful : (t : ItemType) (bits : ℕ) (o : BitOrder) → 1 ≤ bits → bits ≤ bits_of t
+    → IsLawful (packed_to_unpacked t bits o)
 packed_to_unpacked-lawful t bits o some few =
     repacking-lawful t (bits_of t) bits o MsbFirst (bits_some t) (bits_few t) some (omega (arith, few, bits_few t))
 
-pub unpacked_to_packed-lawful : (t : ItemType) (bits : ℕ) (o : BitOrder) → 1 ≤ bits → bits ≤ bits_of t → IsLawful (unpacked_to_packed t bits o)
+pub unpacked_to_packed-lawful : (t : ItemType) (bits : ℕ) (o : BitOrder) → 1 ≤ bits → bits ≤ bits_of t
+    → IsLawful (unpacked_to_packed t bits o)
 unpacked_to_packed-lawful t bits o some few =
     repacking-lawful t bits (bits_of t) MsbFirst o some (omega (arith, few, bits_few t)) (bits_some t) (bits_few t)
 
 -- the past of an item that is among those that agree
-bit_before-same : (x y : List ℤ) (k n back : ℕ) → take k x ≡ take k y → n < k → bit_before x n back ≡ bit_before y n back
+bit_before-same : (x y : List ℤ) (k n back : ℕ) → take k x ≡ take k y → n < k → bit_before x n back
+    ≡ bit_before y n back
 bit_before-same x y k n back e h = ap (λ z. residue z 2) (past-same x y k n back e h)
 
-word_before-same : (count : ℕ) (x y : List ℤ) (k n : ℕ) → take k x ≡ take k y → n < k → word_before count x n ≡ word_before count y n
-word_before-same count x y k n e h = ap (number_by MsbFirst) (map-same _ _ 0 count (λ j from to. bit_before-same x y k n (64 + count - j) e h))
+word_before-same : (count : ℕ) (x y : List ℤ) (k n : ℕ) → take k x ≡ take k y → n < k → word_before count x n
+    ≡ word_before count y n
+word_before-same count x y k n e h = ap (number_by MsbFirst) (map-same _ _ 0 count
+    (λ j from to. bit_before-same x y k n (64 + count - j) e h))
 
 -- a bit is 0 or 1
 is_behind_code-few : (code count threshold : ℕ) (x : List ℤ) (n : ℕ) → is_behind_code code count threshold x n ≤ 1
-is_behind_code-few code count threshold x n = choose (nat_le count n && nat_le (distance (word_before count x n) code) threshold)
+is_behind_code-few code count threshold x n = choose (nat_le count n && nat_le (distance (word_before count x n) code)
+    threshold)
   where
     choose : (b : Bool) → (if b then 1 else 0) ≤ 1
     choose true = omega arith
@@ -131,7 +143,11 @@ is_behind_code-few code count threshold x n = choose (nat_le count n && nat_le (
 pub correlate_access_code-lawful : (code count threshold : ℕ) → IsLawful (correlate_access_code code count threshold)
 correlate_access_code-lawful code count threshold =
     shaped-lawful _ _ _ _ _ _ _ _ _ _ one_for_one (omega arith) (omega arith) refl (λ ts xs. refl)
-    (λ ts xs p n h. IsItem-byte _ (omega (arith, residue-less (item_before (input xs 0) n 64) 2 (omega arith), is_behind_code-few code count threshold (input xs 0) n)))
+    (λ ts xs p n h. IsItem-byte _ (omega (
+      arith,
+      residue-less (item_before (input xs 0) n 64) 2 (omega arith),
+      is_behind_code-few code count threshold (input xs 0) n,
+    )))
     (λ ts us xs ys k p n settings inputs h.
     ap₂ (λ (b : ℕ) (word : ℕ). pos (b + 2 * (if nat_le count n && nat_le (distance word code) threshold then 1 else 0)))
     (bit_before-same (input xs 0) (input ys 0) (1 * k) n 64 (inputs.items 0) h)

@@ -17,19 +17,24 @@ use Rattle.kind_laws.specs.Bits.{IsItem-byte}
 use Rattle.kind_laws.specs.Rates.{item_of_firing}
 
 -- two lists that are given number by number, from two numbers on
-numbered : {X : Type 0} (f g : ℕ → X) (a b count : ℕ) → ((k : ℕ) → k < count → f (a + k) ≡ g (b + k)) → map f (numbers_from a count) ≡ map g (numbers_from b count)
+numbered : {X : Type 0} (f g : ℕ → X) (a b count : ℕ) → ((k : ℕ) → k < count → f (a + k) ≡ g (b + k))
+    → map f (numbers_from a count) ≡ map g (numbers_from b count)
 numbered f g a b zero same = refl
 numbered f g a b (suc count) same =
     let here : f a ≡ g b = ap f (omega arith) ∙ same 0 (omega arith) ∙ ap g (omega arith) in
-    ap₂ ◌∷◌ here (numbered f g (a + 1) (b + 1) count (λ k h. ap f (omega arith) ∙ same (suc k) (omega arith) ∙ ap g (omega arith)))
+    ap₂ ◌∷◌ here (numbered f g (a + 1) (b + 1) count (λ k h. ap f (omega arith) ∙ same (suc k) (omega arith) ∙ ap g
+    (omega arith)))
 
 -- tests that agree at each number of a run
-all-same : (f g : ℕ → Bool) (a count : ℕ) → ((j : ℕ) → a ≤ j → j < a + count → f j ≡ g j) → list_all f (numbers_from a count) ≡ list_all g (numbers_from a count)
+all-same : (f g : ℕ → Bool) (a count : ℕ) → ((j : ℕ) → a ≤ j → j < a + count → f j ≡ g j)
+    → list_all f (numbers_from a count) ≡ list_all g (numbers_from a count)
 all-same f g a zero same = refl
-all-same f g a (suc count) same = ap₂ ◌&&◌ (same a (omega arith) (omega arith)) (all-same f g (a + 1) count (λ j from to. same j (omega arith) (omega arith)))
+all-same f g a (suc count) same = ap₂ ◌&&◌ (same a (omega arith) (omega arith))
+    (all-same f g (a + 1) count (λ j from to. same j (omega arith) (omega arith)))
 
 -- frames that agree have one checksum
-pub checksum-same : (c : Checksum) (x y : List ℤ) (a b n : ℕ) → ((j : ℕ) → j < n → item x (a + j) ≡ item y (b + j)) → checksum c x a n ≡ checksum c y b n
+pub checksum-same : (c : Checksum) (x y : List ℤ) (a b n : ℕ) → ((j : ℕ) → j < n → item x (a + j) ≡ item y (b + j))
+    → checksum c x a n ≡ checksum c y b n
 checksum-same c x y a b n same =
     ap (λ bits. bit_xor (in_order c.order c.bits (remainder c.bits c.polynomial c.init bits)) c.final_xor)
     (numbered (stream_bit c.order 8 x) (stream_bit c.order 8 y) (8 * a) (8 * b) (8 * n)
@@ -40,21 +45,26 @@ checksum-same c x y a b n same =
     λ i. residue (there i) (2 ^ 8) / 2 ^ place_by c.order 8 (place i) % 2))
 
 pub with_checksum-same :
-    (c : Checksum) (n : ℕ) (x y : List ℤ) (a b r : ℕ) → ((j : ℕ) → j < n → item x (a + j) ≡ item y (b + j)) → with_checksum c n x a r ≡ with_checksum c n y b r
+    (c : Checksum) (n : ℕ) (x y : List ℤ) (a b r : ℕ) → ((j : ℕ) → j < n → item x (a + j) ≡ item y (b + j))
+    → with_checksum c n x a r ≡ with_checksum c n y b r
 with_checksum-same c n x y a b r same = choose (nat_lt r n) refl
   where
     choose : (t : Bool) → nat_lt r n ≡ t →
-        (if t then item x (a + r) else checksum_byte c (checksum c x a n) (r - n)) ≡ (if t then item y (b + r) else checksum_byte c (checksum c y b n) (r - n))
+        (if t then item x (a + r) else checksum_byte c (checksum c x a n) (r - n))
+        ≡ (if t then item y (b + r) else checksum_byte c (checksum c y b n) (r - n))
     choose true e = same r (grind (arith, nat_tests))
     choose false e = ap (λ s. checksum_byte c s (r - n)) (checksum-same c x y a b n same)
 
 pub is_checked-same :
-    (c : Checksum) (n : ℕ) (x y : List ℤ) (a b : ℕ) → ((j : ℕ) → j < n + bytes_of c → item x (a + j) ≡ item y (b + j)) → is_checked c n x a ≡ is_checked c n y b
+    (c : Checksum) (n : ℕ) (x y : List ℤ) (a b : ℕ) → ((j : ℕ) → j < n + bytes_of c → item x (a + j) ≡ item y (b + j))
+    → is_checked c n x a ≡ is_checked c n y b
 is_checked-same c n x y a b same =
     ap (λ (t : Bool). if t then 1 else 0)
-    (all-same (λ j. int_eq (item x (a + n + j)) (checksum_byte c (checksum c x a n) j)) (λ j. int_eq (item y (b + n + j)) (checksum_byte c (checksum c y b n) j)) 0 (bytes_of c)
+    (all-same (λ j. int_eq (item x (a + n + j)) (checksum_byte c (checksum c x a n) j))
+    (λ j. int_eq (item y (b + n + j)) (checksum_byte c (checksum c y b n) j)) 0 (bytes_of c)
     (λ j from to.
-    let there : item x (a + n + j) ≡ item y (b + n + j) = ap (item x) (omega arith) ∙ same (n + j) (omega arith) ∙ ap (item y) (omega arith) in
+    let there : item x (a + n + j) ≡ item y (b + n + j) = ap (item x) (omega arith) ∙ same (n + j) (omega arith) ∙ ap
+    (item y) (omega arith) in
     let sum = checksum-same c x y a b n (λ i h. same i (omega arith)) in
     λ i. int_eq (there i) (checksum_byte c (sum i) j)))
 
@@ -74,9 +84,15 @@ IsItem-with c n x a r are = choose (nat_lt r n)
 pub crc_append-lawful : (n : ℕ) (c : Checksum) → IsChecksum c n → IsLawful (crc_append n c)
 crc_append-lawful n c is =
     shaped-lawful _ _ _ _ _ _ _ _ _ _
-    (record { takes_some = is.some; takes_few = omega (arith, is.few); gives_some = omega (arith, is.some); gives_few = omega (arith, is.few, (bytes-some c n is).1) })
+    (record {
+      takes_some = is.some;
+      takes_few = omega (arith, is.few);
+      gives_some = omega (arith, is.some);
+      gives_few = omega (arith, is.few, (bytes-some c n is).1);
+    })
     (omega arith) (omega arith) refl (λ ts xs. refl)
-    (λ ts xs p k h. IsItem-with c n (input xs 0) (k / (n + bytes_of c) * n) (k % (n + bytes_of c)) (AreItems-input Byte xs 0 h))
+    (λ ts xs p k h. IsItem-with c n (input xs 0) (k / (n + bytes_of c) * n) (k % (n + bytes_of c))
+    (AreItems-input Byte xs 0 h))
     (λ ts us xs ys k p j settings inputs h.
     let m = n + bytes_of c in
     with_checksum-same c n (input xs 0) (input ys 0) (j / m * n) (j / m * n) (j % m)
@@ -86,7 +102,8 @@ crc_append-lawful n c is =
     (λ ts us xs ys k settings inputs. refl)
 
 is_checked-few : (c : Checksum) (n : ℕ) (x : List ℤ) (a : ℕ) → is_checked c n x a ≤ 1
-is_checked-few c n x a = choose (list_all (λ j. int_eq (item x (a + n + j)) (checksum_byte c (checksum c x a n) j)) (below (bytes_of c)))
+is_checked-few c n x a = choose (list_all (λ j. int_eq (item x (a + n + j)) (checksum_byte c (checksum c x a n) j))
+    (below (bytes_of c)))
   where
     choose : (b : Bool) → (if b then 1 else 0) ≤ 1
     choose true = omega arith
@@ -95,36 +112,47 @@ is_checked-few c n x a = choose (list_all (λ j. int_eq (item x (a + n + j)) (ch
 pub crc_check-lawful : (n : ℕ) (c : Checksum) → IsChecksum c n → IsLawful (crc_check n c)
 crc_check-lawful n c is =
     shaped-lawful _ _ _ _ _ _ _ _ _ _
-    (record { takes_some = omega (arith, is.some); takes_few = omega (arith, is.few, (bytes-some c n is).1); gives_some = omega arith; gives_few = omega arith })
+    (record {
+      takes_some = omega (arith, is.some);
+      takes_few = omega (arith, is.few, (bytes-some c n is).1);
+      gives_some = omega arith;
+      gives_few = omega arith;
+    })
     (omega arith) (omega arith) refl (λ ts xs. refl)
     (λ ts xs p k h. IsItem-byte _ (omega (arith, is_checked-few c n (input xs 0) (k * (n + bytes_of c)))))
     (λ ts us xs ys k p j settings inputs h.
     ap pos
     (is_checked-same c n (input xs 0) (input ys 0) (j * (n + bytes_of c)) (j * (n + bytes_of c))
-    (λ r l. item-same (input xs 0) (input ys 0) ((n + bytes_of c) * k) (j * (n + bytes_of c) + r) (inputs.items 0) (item_of_firing (n + bytes_of c) k j r l (omega arith)))))
+    (λ r l. item-same (input xs 0) (input ys 0) ((n + bytes_of c) * k) (j * (n + bytes_of c) + r) (inputs.items 0)
+    (item_of_firing (n + bytes_of c) k j r l (omega arith)))))
     (λ ts us xs ys k settings inputs. refl)
 
 -- streams whose first items agree lead to one state
 state_after-same :
-    (symbols : ℕ) (next : List ℕ) (start : ℕ) (x y : List ℤ) (k n : ℕ) → take k x ≡ take k y → n ≤ k → state_after symbols next start x n ≡ state_after symbols next start y n
+    (symbols : ℕ) (next : List ℕ) (start : ℕ) (x y : List ℤ) (k n : ℕ) → take k x ≡ take k y → n ≤ k
+    → state_after symbols next start x n ≡ state_after symbols next start y n
 state_after-same symbols next start x y k zero e h = refl
 state_after-same symbols next start x y k (suc n) e h =
     let before = state_after-same symbols next start x y k n e (omega arith) in
     let now = item-same x y k n e (omega arith) in
     λ i. slice_index_or next (row_of symbols (before i) (now i)) 0
 
-pub state_machine-lawful : (symbols : ℕ) (next : List ℕ) (output : List ℤ) (start : ℕ) → IsMachine symbols next output start → IsLawful (state_machine symbols next output start)
+pub state_machine-lawful : (symbols : ℕ) (next : List ℕ) (output : List ℤ) (start : ℕ)
+    → IsMachine symbols next output start → IsLawful (state_machine symbols next output start)
 state_machine-lawful symbols next output start is =
     shaped-lawful _ _ _ _ _ _ _ _ _ _ one_for_one (omega arith) (omega arith) refl (λ ts xs. refl)
     (λ ts xs p n h. IsItem-item Byte output _ is.bytes)
     (λ ts us xs ys k p n settings inputs h.
-    let before = state_after-same symbols next start (input xs 0) (input ys 0) (1 * k) n (inputs.items 0) (omega arith) in
+    let before = state_after-same symbols next start (input xs 0) (input ys 0) (1 * k) n (inputs.items 0) (omega arith)
+    in
     let now = item-same (input xs 0) (input ys 0) (1 * k) n (inputs.items 0) h in
     λ i. item output (row_of symbols (before i) (now i)))
-    (λ ts us xs ys k settings inputs. state_after-same symbols next start (input xs 0) (input ys 0) (1 * k) k (inputs.items 0) (omega arith))
+    (λ ts us xs ys k settings inputs. state_after-same symbols next start (input xs 0) (input ys 0) (1 * k) k
+    (inputs.items 0) (omega arith))
 
 -- a state and a symbol have a row
-pub row_within : (symbols state : ℕ) (z : ℤ) (rows : ℕ) → 1 ≤ symbols → state < rows / symbols → row_of symbols state z < rows
+pub row_within : (symbols state : ℕ) (z : ℤ) (rows : ℕ) → 1 ≤ symbols → state < rows / symbols
+    → row_of symbols state z < rows
 row_within symbols state z rows some h =
     let less : residue z symbols < symbols = residue-less z symbols some in
     let whole : rows / symbols * symbols ≤ rows = omega (arith, some) in

@@ -35,21 +35,29 @@ keep_one_in_n-lawful t n low high =
     (λ ts us xs ys k settings inputs. refl)
 
 -- item m of the output is kept from firing m / give, and there it is among those that the firing takes
-pub kept_item : (take_ give from k n : ℕ) → 1 ≤ give → from + give ≤ take_ → n < give * k → n / give * take_ + from + n % give < take_ * k
+pub kept_item : (take_ give from k n : ℕ) → 1 ≤ give → from + give ≤ take_ → n < give * k
+    → n / give * take_ + from + n % give < take_ * k
 kept_item take_ give from k n some within h =
     let rest : n % give < give = omega (arith, some) in
     let firing : n / give < k = div_below n give k (omega arith) (omega arith) in
-    let there : n / give * take_ + (from + n % give) < take_ * k = item_of_firing take_ k (n / give) (from + n % give) (omega (arith, rest)) firing in
+    let there : n / give * take_ + (from + n % give) < take_ * k = item_of_firing take_ k (n / give) (from + n % give)
+    (omega (arith, rest)) firing in
     omega (arith, there)
 
 pub keep_m_in_n-lawful : (t : ItemType) (m n offset : ℕ) → IsKept m n offset → IsLawful (keep_m_in_n t m n offset)
 keep_m_in_n-lawful t m n offset is =
     shaped-lawful _ _ _ _ _ _ _ _ _ _
-    (record { takes_some = omega (arith, is.some, is.within); takes_few = is.few; gives_some = is.some; gives_few = omega (arith, is.within, is.few) })
+    (record {
+      takes_some = omega (arith, is.some, is.within);
+      takes_few = is.few;
+      gives_some = is.some;
+      gives_few = omega (arith, is.within, is.few);
+    })
     (omega arith) (omega arith) refl (λ ts xs. refl)
     (λ ts xs p k h. IsItem-item t (input xs 0) (k / m * n + offset + k % m) (AreItems-input t xs 0 h))
     (λ ts us xs ys k p j settings inputs h.
-    item-same (input xs 0) (input ys 0) (n * k) (j / m * n + offset + j % m) (inputs.items 0) (kept_item n m offset k j is.some is.within h))
+    item-same (input xs 0) (input ys 0) (n * k) (j / m * n + offset + j % m) (inputs.items 0)
+    (kept_item n m offset k j is.some is.within h))
     (λ ts us xs ys k settings inputs. refl)
 
 pub integrate-lawful : (t : ItemType) (n : ℕ) → 1 ≤ n → n ≤ 1024 → IsLawful (integrate t n)
@@ -57,7 +65,8 @@ integrate-lawful t n low high =
     shaped-lawful _ _ _ _ _ _ _ _ _ _ (down n low high) (omega arith) (omega arith) refl (λ ts xs. refl)
     (λ ts xs p m h. IsItem-wrap t _)
     (λ ts us xs ys k p m settings inputs h.
-    ap (wrap t) (sum_below-same n _ _ (λ j l. item-same (input xs 0) (input ys 0) (n * k) (m * n + j) (inputs.items 0) (item_of_firing n k m j l (omega arith)))))
+    ap (wrap t) (sum_below-same n _ _ (λ j l. item-same (input xs 0) (input ys 0) (n * k) (m * n + j) (inputs.items 0)
+    (item_of_firing n k m j l (omega arith)))))
     (λ ts us xs ys k settings inputs. refl)
 
 -- items of a frame of items, and frames that agree
@@ -65,15 +74,19 @@ AreItems-frame : (t : ItemType) (n : ℕ) (xs : List ℤ) (k : ℕ) → AreItems
 AreItems-frame t n xs k are =
     λ j d l.
     let near : j < n = omega (arith, l, length-listed n (λ i. item xs (k * n + i))) in
-    subst (IsItem t) (sym (get_or-map_numbers (λ i. item xs (k * n + i)) 0 n j d near)) (IsItem-item t xs (k * n + (0 + j)) are)
+    subst (IsItem t) (sym (get_or-map_numbers (λ i. item xs (k * n + i)) 0 n j d near))
+    (IsItem-item t xs (k * n + (0 + j)) are)
 
-pub frame-same : (n : ℕ) (xs ys : List ℤ) (a b : ℕ) → ((j : ℕ) → j < n → item xs (a * n + j) ≡ item ys (b * n + j)) → frame n xs a ≡ frame n ys b
-frame-same n xs ys a b same = map-same (λ j. item xs (a * n + j)) (λ j. item ys (b * n + j)) 0 n (λ j from to. same j (omega arith))
+pub frame-same : (n : ℕ) (xs ys : List ℤ) (a b : ℕ) → ((j : ℕ) → j < n → item xs (a * n + j) ≡ item ys (b * n + j))
+    → frame n xs a ≡ frame n ys b
+frame-same n xs ys a b same = map-same (λ j. item xs (a * n + j)) (λ j. item ys (b * n + j)) 0 n
+    (λ j from to. same j (omega arith))
 
 pub frame_minimum-lawful : (t : ItemType) (n : ℕ) → 1 ≤ n → n ≤ 1024 → IsLawful (frame_minimum t n)
 frame_minimum-lawful t n low high =
     shaped-lawful _ _ _ _ _ _ _ _ _ _ (down n low high) (omega arith) (omega arith) refl (λ ts xs. refl)
-    (λ ts xs p m h. IsItem-least_up_to t (greatest_of t) (frame n (input xs 0) m) (IsItem-greatest t) (AreItems-frame t n (input xs 0) m (AreItems-input t xs 0 h)))
+    (λ ts xs p m h. IsItem-least_up_to t (greatest_of t) (frame n (input xs 0) m) (IsItem-greatest t)
+    (AreItems-frame t n (input xs 0) m (AreItems-input t xs 0 h)))
     (λ ts us xs ys k p m settings inputs h.
     ap (least_up_to (greatest_of t)) (frame-same n (input xs 0) (input ys 0) m m (λ j l.
     item-same (input xs 0) (input ys 0) (n * k) (m * n + j) (inputs.items 0) (item_of_firing n k m j l (omega arith)))))
@@ -82,7 +95,8 @@ frame_minimum-lawful t n low high =
 pub frame_maximum-lawful : (t : ItemType) (n : ℕ) → 1 ≤ n → n ≤ 1024 → IsLawful (frame_maximum t n)
 frame_maximum-lawful t n low high =
     shaped-lawful _ _ _ _ _ _ _ _ _ _ (down n low high) (omega arith) (omega arith) refl (λ ts xs. refl)
-    (λ ts xs p m h. IsItem-greatest_down_to t (least_of t) (frame n (input xs 0) m) (IsItem-least t) (AreItems-frame t n (input xs 0) m (AreItems-input t xs 0 h)))
+    (λ ts xs p m h. IsItem-greatest_down_to t (least_of t) (frame n (input xs 0) m) (IsItem-least t)
+    (AreItems-frame t n (input xs 0) m (AreItems-input t xs 0 h)))
     (λ ts us xs ys k p m settings inputs h.
     ap (greatest_down_to (least_of t)) (frame-same n (input xs 0) (input ys 0) m m (λ j l.
     item-same (input xs 0) (input ys 0) (n * k) (m * n + j) (inputs.items 0) (item_of_firing n k m j l (omega arith)))))
@@ -101,7 +115,8 @@ pub repeat-lawful : (t : ItemType) (n : ℕ) → 1 ≤ n → n ≤ 1024 → IsLa
 repeat-lawful t n low high =
     shaped-lawful _ _ _ _ _ _ _ _ _ _ (up n low high) (omega arith) (omega arith) refl (λ ts xs. refl)
     (λ ts xs p m h. IsItem-item t (input xs 0) (m / n) (AreItems-input t xs 0 h))
-    (λ ts us xs ys k p m settings inputs h. item-same (input xs 0) (input ys 0) (1 * k) (m / n) (inputs.items 0) (div_below m n (1 * k) (omega arith) (omega arith)))
+    (λ ts us xs ys k p m settings inputs h. item-same (input xs 0) (input ys 0) (1 * k) (m / n) (inputs.items 0)
+    (div_below m n (1 * k) (omega arith) (omega arith)))
     (λ ts us xs ys k settings inputs. refl)
 
 pub interleave-lawful : (t : ItemType) (n : ℕ) → 1 ≤ n → n ≤ 1024 → IsLawful (interleave t n)
@@ -109,7 +124,8 @@ interleave-lawful t n low high =
     shaped-lawful _ _ _ _ _ _ _ _ _ _ (up n low high) low (omega arith) refl (λ ts xs. refl)
     (λ ts xs p m h. IsItem-item t (input xs (m % n)) (m / n) (AreItems-input t xs (m % n) h))
     (λ ts us xs ys k p m settings inputs h.
-    item-same (input xs (m % n)) (input ys (m % n)) (1 * k) (m / n) (inputs.items (m % n)) (div_below m n (1 * k) (omega arith) (omega arith)))
+    item-same (input xs (m % n)) (input ys (m % n)) (1 * k) (m / n) (inputs.items (m % n))
+    (div_below m n (1 * k) (omega arith) (omega arith)))
     (λ ts us xs ys k settings inputs. refl)
 
 -- a number where a test holds, else zero
@@ -125,7 +141,8 @@ deinterleave-lawful t n low high =
     shaped-lawful _ _ _ _ _ _ _ _ _ _ (down n low high) (omega arith) (omega arith) refl (λ ts xs. refl)
     (λ ts xs p m h. IsItem-if t (nat_lt p n) _ (IsItem-item t (input xs 0) (m * n + p) (AreItems-input t xs 0 h)))
     (λ ts us xs ys k p m settings inputs h.
-    if-same p n _ _ (λ l. item-same (input xs 0) (input ys 0) (n * k) (m * n + p) (inputs.items 0) (item_of_firing n k m p l (omega arith))))
+    if-same p n _ _ (λ l. item-same (input xs 0) (input ys 0) (n * k) (m * n + p) (inputs.items 0)
+    (item_of_firing n k m p l (omega arith))))
     (λ ts us xs ys k settings inputs. refl)
 
 -- a number of two, chosen by a test
@@ -134,15 +151,18 @@ IsItem-choice t true y z h g = h
 IsItem-choice t false y z h g = g
 
 -- an item of one of three
-IsItem-inserted : (t : ItemType) (values : List ℤ) (offset : ℕ) (xs : List ℤ) (a r : ℕ) → AreItems t values → AreItems t xs → IsItem t (inserted values offset xs a r)
+IsItem-inserted : (t : ItemType) (values : List ℤ) (offset : ℕ) (xs : List ℤ) (a r : ℕ) → AreItems t values
+    → AreItems t xs → IsItem t (inserted values offset xs a r)
 IsItem-inserted t values offset xs a r mine h =
     IsItem-choice t (nat_lt r offset) _ _ (IsItem-item t xs (a + r) h)
-    (IsItem-choice t (nat_lt r (offset + length values)) _ _ (IsItem-item t values (r - offset) mine) (IsItem-item t xs (a + (r - length values)) h))
+    (IsItem-choice t (nat_lt r (offset + length values)) _ _ (IsItem-item t values (r - offset) mine)
+    (IsItem-item t xs (a + (r - length values)) h))
 
 -- a period of streams that agree in its items
 pub inserted-same :
     (values : List ℤ) (offset rest : ℕ) (xs ys : List ℤ) (a b r : ℕ) → offset ≤ rest → r < rest + length values →
-    ((j : ℕ) → j < rest → item xs (a + j) ≡ item ys (b + j)) → inserted values offset xs a r ≡ inserted values offset ys b r
+    ((j : ℕ) → j < rest → item xs (a + j) ≡ item ys (b + j)) → inserted values offset xs a r
+    ≡ inserted values offset ys b r
 inserted-same values offset rest xs ys a b r whole h same =
     choices (nat_lt r offset) (nat_lt r (offset + length values)) refl refl
   where
@@ -153,14 +173,23 @@ inserted-same values offset rest xs ys a b r whole h same =
     choices false true e f = refl
     choices false false e f = same (r - length values) (grind (arith, nat_tests))
 
-pub insert-lawful : (t : ItemType) (values : List ℤ) (period offset : ℕ) → IsInsert t values period offset → IsLawful (insert t values period offset)
+pub insert-lawful : (t : ItemType) (values : List ℤ) (period offset : ℕ) → IsInsert t values period offset
+    → IsLawful (insert t values period offset)
 insert-lawful t values period offset is =
     shaped-lawful _ _ _ _ _ _ _ _ _ _
-    (record { takes_some = omega (arith, is.above); takes_few = omega (arith, is.most); gives_some = omega (arith, is.above); gives_few = is.most })
+    (record {
+      takes_some = omega (arith, is.above);
+      takes_few = omega (arith, is.most);
+      gives_some = omega
+          (arith, is.above);
+      gives_few = is.most;
+    })
     (omega arith) (omega arith) refl (λ ts xs. refl)
-    (λ ts xs p k h. IsItem-inserted t values offset (input xs 0) (k / period * rest) (k % period) is.items (AreItems-input t xs 0 h))
+    (λ ts xs p k h. IsItem-inserted t values offset (input xs 0) (k / period * rest) (k % period) is.items
+    (AreItems-input t xs 0 h))
     (λ ts us xs ys k p j settings inputs h.
-    inserted-same values offset rest (input xs 0) (input ys 0) (j / period * rest) (j / period * rest) (j % period) is.whole (within j) (λ i l.
+    inserted-same values offset rest (input xs 0) (input ys 0) (j / period * rest) (j / period * rest) (j % period)
+    is.whole (within j) (λ i l.
     item-same (input xs 0) (input ys 0) (rest * k) (j / period * rest + i) (inputs.items 0)
     (item_of_firing rest k (j / period) i l (div_below j period k (omega (arith, is.above)) (omega arith)))))
     (λ ts us xs ys k settings inputs. refl)
@@ -178,14 +207,22 @@ from_place-within order j is h = is.within j 0 h
 pub permute-lawful : (t : ItemType) (order : List ℕ) → IsOrder order → IsLawful (permute t order)
 permute-lawful t order is =
     shaped-lawful _ _ _ _ _ _ _ _ _ _
-    (record { takes_some = is.some; takes_few = omega (arith, is.few); gives_some = is.some; gives_few = omega (arith, is.few) })
+    (record {
+      takes_some = is.some;
+      takes_few = omega (arith, is.few);
+      gives_some = is.some;
+      gives_few = omega
+          (arith, is.few);
+    })
     (omega arith) (omega arith) refl (λ ts xs. refl)
-    (λ ts xs p k h. IsItem-item t (input xs 0) (k / length order * length order + from_place order (k % length order)) (AreItems-input t xs 0 h))
+    (λ ts xs p k h. IsItem-item t (input xs 0) (k / length order * length order + from_place order (k % length order))
+    (AreItems-input t xs 0 h))
     (λ ts us xs ys k p j settings inputs h.
     let n = length order in
     let less : j % n < n = omega (arith, is.some) in
     item-same (input xs 0) (input ys 0) (n * k) (j / n * n + from_place order (j % n)) (inputs.items 0)
-    (item_of_firing n k (j / n) (from_place order (j % n)) (from_place-within order (j % n) is less) (div_below j n k (omega (arith, is.some)) (omega arith))))
+    (item_of_firing n k (j / n) (from_place order (j % n)) (from_place-within order (j % n) is less)
+    (div_below j n k (omega (arith, is.some)) (omega arith))))
     (λ ts us xs ys k settings inputs. refl)
 
 pub pattern-lawful : (t : ItemType) (values : List ℤ) → AreItems t values → IsLawful (pattern t values)
@@ -206,13 +243,18 @@ pub head-lawful : (t : ItemType) (n : ℕ) → IsLawful (head t n)
 head-lawful t n =
     record {
       role = omega arith;
-      counts = λ p. (refl, IsAtRate-at_rate (head t n) p 1 1 (omega arith) (omega arith) (omega arith) (omega arith) (λ k. refl) (λ k. refl) (λ s. omega arith));
+      counts = λ p. (
+        refl,
+        IsAtRate-at_rate (head t n) p 1 1 (omega arith) (omega arith) (omega arith) (omega arith)
+            (λ k. refl) (λ k. refl) (λ s. omega arith),
+      );
       reads_now = omega arith;
       own = refl;
       settable = λ h. refl;
       starts = λ ts xs. refl;
       in_range = λ ts xs p m port wanted h. IsItem-item t (input xs 0) m (AreItems-input t xs 0 h);
-      local = λ ts us xs ys k p m port settings inputs h. item-same (input xs 0) (input ys 0) (1 * k) m (inputs.items 0) h;
+      local = λ ts us xs ys k p m port settings inputs h. item-same (input xs 0) (input ys 0) (1 * k) m (inputs.items 0)
+          h;
       local_word = λ ts us xs ys k settings inputs. refl;
     }
 
@@ -226,15 +268,18 @@ skiphead-lawful t n =
       settable = λ h. (cc);
       starts = λ ts xs. refl;
       in_range = λ ts xs p m port wanted h. IsItem-item t (input xs 0) (m + n) (AreItems-input t xs 0 h);
-      local = λ ts us xs ys k p m port settings inputs h. item-same (input xs 0) (input ys 0) k (m + n) (inputs.items 0) (omega arith);
+      local = λ ts us xs ys k p m port settings inputs h. item-same (input xs 0) (input ys 0) k (m + n) (inputs.items 0)
+          (omega arith);
       local_word = λ ts us xs ys k settings inputs. refl;
     }
 
 -- a delayed item: among the zeros, or among the items taken
-delayed-same : (x y : List ℤ) (n k m : ℕ) → take (k - n) x ≡ take (k - n) y → m < k → item_before x m n ≡ item_before y m n
+delayed-same : (x y : List ℤ) (n k m : ℕ) → take (k - n) x ≡ take (k - n) y → m < k → item_before x m n
+    ≡ item_before y m n
 delayed-same x y n k m same h = before_cases (nat_le n m) refl
   where
-    before_cases : (b : Bool) → nat_le n m ≡ b → (if b then item x (m - n) else pos 0) ≡ (if b then item y (m - n) else pos 0)
+    before_cases : (b : Bool) → nat_le n m ≡ b → (if b then item x (m - n) else pos 0)
+        ≡ (if b then item y (m - n) else pos 0)
     before_cases true le = item-same x y (k - n) (m - n) same (grind (arith, nat_tests))
     before_cases false more = refl
 
@@ -247,8 +292,10 @@ delay-lawful t n few =
       own = refl;
       settable = λ h. (cc);
       starts = λ ts xs. refl;
-      in_range = λ ts xs p m port wanted h. IsItem-if t (nat_le n m) _ (IsItem-item t (input xs 0) (m - n) (AreItems-input t xs 0 h));
-      local = λ ts us xs ys k p m port settings inputs h. delayed-same (input xs 0) (input ys 0) n k m (inputs.items 0) h;
+      in_range = λ ts xs p m port wanted h. IsItem-if t (nat_le n m) _
+          (IsItem-item t (input xs 0) (m - n) (AreItems-input t xs 0 h));
+      local = λ ts us xs ys k p m port settings inputs h. delayed-same (input xs 0) (input ys 0) n k m (inputs.items 0)
+          h;
       local_word = λ ts us xs ys k settings inputs. refl;
     }
 
@@ -279,18 +326,22 @@ pub round_some : (lengths : List ℕ) → 1 ≤ length lengths → All (λ l. (1
 round_some [] some each = absurd (omega arith)
 round_some (l ∷ ls) some each = omega (arith, sum-cons l ls, (each 0 0 (omega arith)).0)
 
-IsItem-round_item : (t : ItemType) (ls : List ℕ) (p : ℕ) (xs : List (List ℤ)) (g r : ℕ) → All (AreItems t) xs → IsItem t (round_item ls p xs g r)
+IsItem-round_item : (t : ItemType) (ls : List ℕ) (p : ℕ) (xs : List (List ℤ)) (g r : ℕ) → All (AreItems t) xs
+    → IsItem t (round_item ls p xs g r)
 IsItem-round_item t [] p xs g r h = IsItem-zero t
 IsItem-round_item t (l ∷ ls) p xs g r h =
-    IsItem-choice t (nat_lt r l) _ _ (IsItem-item t (input xs p) (g * l + r) (AreItems-input t xs p h)) (IsItem-round_item t ls (suc p) xs g (r - l) h)
+    IsItem-choice t (nat_lt r l) _ _ (IsItem-item t (input xs p) (g * l + r) (AreItems-input t xs p h))
+    (IsItem-round_item t ls (suc p) xs g (r - l) h)
 
-choice-same : (r l : ℕ) (x y v w : ℤ) → (r < l → x ≡ y) → v ≡ w → (if nat_lt r l then x else v) ≡ (if nat_lt r l then y else w)
+choice-same : (r l : ℕ) (x y v w : ℤ) → (r < l → x ≡ y) → v ≡ w → (if nat_lt r l then x else v)
+    ≡ (if nat_lt r l then y else w)
 choice-same r l x y v w same rest = grind (arith, nat_tests)
 
 -- rounds of inputs that agree in what the first firings take
 pub round_item-same :
     (ls : List ℕ) (p : ℕ) (xs ys : List (List ℤ)) (g r k : ℕ) → g < k →
-    ((q j n : ℕ) → j ≡ p + q → n < turn_of ls q * k → item (input xs j) n ≡ item (input ys j) n) → round_item ls p xs g r ≡ round_item ls p ys g r
+    ((q j n : ℕ) → j ≡ p + q → n < turn_of ls q * k → item (input xs j) n ≡ item (input ys j) n)
+    → round_item ls p xs g r ≡ round_item ls p ys g r
 round_item-same [] p xs ys g r k h same = refl
 round_item-same (l ∷ ls) p xs ys g r k h same =
     choice-same r l _ _ _ _ (λ within. same 0 p (g * l + r) (omega arith) (item_of_firing l k g r within h))
@@ -319,9 +370,11 @@ stream_mux-lawful t lengths mux =
       starts = λ ts xs. refl;
       in_range = λ ts xs p n port wanted h. IsItem-round_item t lengths 0 xs (n / sum lengths) (n % sum lengths) h;
       local = λ ts us xs ys k p n port settings inputs h.
-          round_item-same lengths 0 xs ys (n / sum lengths) (n % sum lengths) k (div_below n (sum lengths) k (omega (arith, round)) (omega arith))
+          round_item-same lengths 0 xs ys (n / sum lengths) (n % sum lengths) k
+          (div_below n (sum lengths) k (omega (arith, round)) (omega arith))
           (λ q j m e there.
-          item-same (input xs j) (input ys j) (turn_of lengths j * k) m (inputs.items j) (subst (λ (z : ℕ). m < turn_of lengths z * k) (omega (arith, e)) there));
+          item-same (input xs j) (input ys j) (turn_of lengths j * k) m (inputs.items j)
+          (subst (λ (z : ℕ). m < turn_of lengths z * k) (omega (arith, e)) there));
       local_word = λ ts us xs ys k settings inputs. refl;
     }
   where

@@ -17,14 +17,16 @@ pub output-less : (m : Trellis) (r : ℕ) → IsTrellis m → slice_index_or m.o
 output-less m r is =
     elim (cases_lt r (length m.output)) [
       | inl within ↦ is.given r 0 within
-      | inr past ↦ let none : slice_index_or m.output r 0 ≡ 0 = get_or_past m.output r 0 past in omega (arith, none, is.some_outputs)
+      | inr past ↦ let none : slice_index_or m.output r 0 ≡ 0 = get_or_past m.output r 0 past in omega
+          (arith, none, is.some_outputs)
     ]
 
 module _ (m : Trellis) (is : IsTrellis m) (x y : List ℤ) (a b : ℕ) (same : (j : ℕ) → j < m.steps * m.outputs → item x (a + j) ≡ item y (b + j)) where
   metric-same : (i r : ℕ) → i < m.steps → metric m x a i r ≡ metric m y b i r
   metric-same i r h =
       let o = slice_index_or m.output r 0 in
-      let within : i * m.outputs + o < m.outputs * m.steps = item_of_firing m.outputs m.steps i o (output-less m r is) h in
+      let within : i * m.outputs + o < m.outputs * m.steps = item_of_firing m.outputs m.steps i o (output-less m r is) h
+      in
       ap (item x) (omega arith) ∙ same (i * m.outputs + o) (omega (arith, within)) ∙ ap (item y) (omega arith)
 
   cost-same : (k : ℕ) (path : List ℕ) → k ≤ m.steps → cost m x a k path ≡ cost m y b k path
@@ -49,13 +51,24 @@ pub viterbi-lawful : (t : ItemType) (m : Trellis) → IsTrellis m → IsLawful (
 viterbi-lawful t m is =
     let taken = m.steps * m.outputs in
     shaped-lawful _ _ _ _ _ _ _ _ _ _
-    (record { takes_some = some_items m.steps m.outputs is.some_steps is.some_outputs; takes_few = is.few_items; gives_some = is.some_steps; gives_few = few_steps m.steps m.outputs is.some_outputs is.few_items })
+    (record {
+      takes_some = some_items m.steps m.outputs is.some_steps is.some_outputs;
+      takes_few = is.few_items;
+      gives_some = is.some_steps;
+      gives_few = few_steps m.steps m.outputs is.some_outputs is.few_items;
+    })
     (omega arith) (omega arith) refl (λ ts xs. refl)
-    (λ ts xs p k h. IsItem-byte _ (omega (arith, is.bytes, symbol-less m (cheapest (cost m (input xs 0) (k / m.steps * taken) m.steps) (paths m)) (k % m.steps) is.some)))
+    (λ ts xs p k h. IsItem-byte _ (omega (
+      arith,
+      is.bytes,
+      symbol-less m
+          (cheapest (cost m (input xs 0) (k / m.steps * taken) m.steps) (paths m)) (k % m.steps) is.some,
+    )))
     (λ ts us xs ys k p j settings inputs h.
     ap pos
     (decoded-same m is (input xs 0) (input ys 0) (j / m.steps * taken) (j / m.steps * taken)
-    (λ r l. item-same (input xs 0) (input ys 0) (taken * k) (j / m.steps * taken + r) (inputs.items 0) (item_of_firing taken k (j / m.steps) r l (div_below j m.steps k (omega (arith, is.some_steps)) (omega arith))))
+    (λ r l. item-same (input xs 0) (input ys 0) (taken * k) (j / m.steps * taken + r) (inputs.items 0)
+    (item_of_firing taken k (j / m.steps) r l (div_below j m.steps k (omega (arith, is.some_steps)) (omega arith))))
     (j % m.steps)))
     (λ ts us xs ys k settings inputs. refl)
   where

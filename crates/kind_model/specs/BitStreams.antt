@@ -42,8 +42,8 @@ divisor_up_to a b (suc d) = if (a % suc d == 0) && (b % suc d == 0) then suc d e
 abbrev pub common_divisor : ℕ → ℕ → ℕ
 common_divisor a b = divisor_up_to a b a
 
--- the k lowest bits of each item, one after the other in order o, in items of l bits in order p; a firing takes the fewest items whose bits
--- fill whole ones
+-- the k lowest bits of each item, one after the other in order o, in items of l bits in order p; a firing takes the
+-- fewest items whose bits fill whole ones
 abbrev pub repacking : ItemType → ℕ → ℕ → BitOrder → BitOrder → Meaning
 repacking t k l o p =
     record (at_rate (ports 1 t) (ports 1 t) (l / common_divisor k l) (k / common_divisor k l)) {
@@ -74,13 +74,14 @@ word_before count x n = number_by MsbFirst (map (λ j. bit_before x n (64 + coun
 abbrev pub distance : ℕ → ℕ → ℕ
 distance a b = count_ones (bit_xor a b)
 
--- 1 at the item behind a word that differs from the code in few enough bits, 0 at each other; zeros before item 0 count as bits of a word,
--- and none of the first `count` items is marked
+-- 1 at the item behind a word that differs from the code in few enough bits, 0 at each other; zeros before item 0 count
+-- as bits of a word, and none of the first `count` items is marked
 abbrev pub is_behind_code : ℕ → ℕ → ℕ → List ℤ → ℕ → ℕ
 is_behind_code code count threshold x n =
     if nat_le count n && nat_le (distance (word_before count x n) code) threshold then 1 else 0
 
--- the lowest bit of the item 64 before in bit 0, and in bit 1 whether it is the first behind the code (GNU Radio manual)
+-- the lowest bit of the item 64 before in bit 0, and in bit 1 whether it is the first behind the code (GNU Radio
+-- manual)
 abbrev pub correlate_access_code : ℕ → ℕ → ℕ → Meaning
 correlate_access_code code count threshold =
     record (sync Byte Byte) {

@@ -19,7 +19,8 @@ unpack_k_bits k = record (at_rate (ports 1 Byte) (ports 1 Byte) 1 k) { out = λ 
 abbrev pub running_sum : ℕ → List ℤ → ℕ → ℕ
 running_sum m x n = residue (total (take n x)) m
 
--- the sum of all items so far modulo m, which is the item plus the last output (GNU Radio manual); the word is the last output
+-- the sum of all items so far modulo m, which is the item plus the last output (GNU Radio manual); the word is the last
+-- output
 abbrev pub diff_encoder : ℕ → Meaning
 diff_encoder m =
     record (sync Byte Byte) {
@@ -59,15 +60,16 @@ low_bit x n = residue (item x n) 2
 -- y[n] = x[n] + sum over j of mask j * y[n-j], modulo 2
 abbrev pub scrambled : ℕ → ℕ → ℕ → List ℤ → ℕ → List ℕ
 scrambled bits mask init x zero = places_of bits init
-scrambled bits mask init x (suc n) = let ys = scrambled bits mask init x n in ((low_bit x n + masked bits mask ys) % 2) ∷ ys
+scrambled bits mask init x (suc n) = let ys = scrambled bits mask init x n in
+    ((low_bit x n + masked bits mask ys) % 2) ∷ ys
 
 -- the lowest bits of x[n-1], x[n-2], .., x[0], and then x[-1], x[-2], .., which are the places of init
 abbrev pub received : ℕ → ℕ → List ℤ → ℕ → List ℕ
 received bits init x zero = places_of bits init
 received bits init x (suc n) = low_bit x n ∷ received bits init x n
 
--- the bits s[n-1], s[n-2], .., s[0] of a shift register with feedback, and then s[-1], s[-2], .., which are the places of init:
--- s[n] = sum over j of mask j * s[n-j], modulo 2
+-- the bits s[n-1], s[n-2], .., s[0] of a shift register with feedback, and then s[-1], s[-2], .., which are the places
+-- of init: s[n] = sum over j of mask j * s[n-j], modulo 2
 abbrev pub shifted : ℕ → ℕ → ℕ → ℕ → List ℕ
 shifted bits mask init zero = places_of bits init
 shifted bits mask init (suc n) = let ss = shifted bits mask init n in (masked bits mask ss % 2) ∷ ss
@@ -76,8 +78,8 @@ shifted bits mask init (suc n) = let ss = shifted bits mask init n in (masked bi
 abbrev pub newest : List ℕ → ℕ
 newest held = slice_index_or held 0 0
 
--- y[n] = x[n] + sum over j of mask j * y[n-j], modulo 2 (textbook multiplicative scrambler; mask and init as numbers are own);
--- the word is the register of the last outputs
+-- y[n] = x[n] + sum over j of mask j * y[n-j], modulo 2 (textbook multiplicative scrambler; mask and init as numbers
+-- are own); the word is the register of the last outputs
 abbrev pub scrambler : ℕ → ℕ → ℕ → Meaning
 scrambler bits mask init =
     record (sync Byte Byte) {
@@ -86,8 +88,8 @@ scrambler bits mask init =
       out = λ ts xs p n. pos (newest (scrambled bits mask init (input xs 0) (suc n)));
     }
 
--- y[n] = x[n] + sum over j of mask j * x[n-j], modulo 2 (textbook self-synchronizing descrambler); the word is the register of the
--- last input bits
+-- y[n] = x[n] + sum over j of mask j * x[n-j], modulo 2 (textbook self-synchronizing descrambler); the word is the
+-- register of the last input bits
 abbrev pub descrambler : ℕ → ℕ → ℕ → Meaning
 descrambler bits mask init =
     record (sync Byte Byte) {
@@ -96,8 +98,8 @@ descrambler bits mask init =
       out = λ ts xs p n. pos ((low_bit (input xs 0) n + masked bits mask (received bits init (input xs 0) n)) % 2);
     }
 
--- y[n] = x[n] + s[n], modulo 2, where s is what a shift register with feedback gives by itself (textbook additive scrambler); the
--- word is that register
+-- y[n] = x[n] + s[n], modulo 2, where s is what a shift register with feedback gives by itself (textbook additive
+-- scrambler); the word is that register
 abbrev pub additive_scrambler : ℕ → ℕ → ℕ → Meaning
 additive_scrambler bits mask init =
     record (sync Byte Byte) {

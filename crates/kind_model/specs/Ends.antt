@@ -7,7 +7,11 @@ use Rattle.stream_model.specs.Shapes.{ports, at_rate}
 
 -- gives the tape that it is fed, item for item (GNU Radio manual; the tape is fed and not a parameter, which is own)
 abbrev pub vector_source : ItemType → Meaning
-vector_source t = record (at_rate (ports 0 t) (ports 1 t) 1 1) { role = roles.Source; out = λ ts xs p n. item (input xs 0) n }
+vector_source t = record (at_rate (ports 0 t) (ports 1 t) 1 1) {
+  role = roles.Source;
+  out = λ ts xs p n. item
+      (input xs 0) n;
+}
 
 -- keeps its input (GNU Radio manual)
 abbrev pub vector_sink : ItemType → Meaning

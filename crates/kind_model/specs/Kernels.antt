@@ -26,7 +26,8 @@ multiply_wrap t a b = listed (length a) (λ n. wrap t (item a n *ℤ item b n))
 abbrev pub sub_wrap : ItemType → List ℤ → List ℤ → List ℤ
 sub_wrap t a b = listed (length a) (λ n. wrap t (item a n -ℤ item b n))
 
--- y over z without what is behind the point, wrapped, and 0 where z is 0 (GNU Radio manual: divide; wrapping and the quotient by 0 are own)
+-- y over z without what is behind the point, wrapped, and 0 where z is 0 (GNU Radio manual: divide; wrapping and the
+-- quotient by 0 are own)
 abbrev pub divided : ItemType → ℤ → ℤ → ℤ
 divided t y z = if int_eq z (pos 0) then pos 0 else wrap t (int_div y z)
 
@@ -117,13 +118,15 @@ not_bits t a = listed (length a) (λ n. turned t (item a n))
 abbrev pub dot : List ℤ → List ℤ → ℤ
 dot h x = sum_below (length h) (λ j. item h j *ℤ item x j)
 
--- with L taps h, item n of the output is the sum over j < L of h[j] * x[n + L - 1 - j], over 2 ^ shift, rounded and saturated:
--- x begins with the L - 1 items before the first (textbook FIR)
+-- with L taps h, item n of the output is the sum over j < L of h[j] * x[n + L - 1 - j], over 2 ^ shift, rounded and
+-- saturated: x begins with the L - 1 items before the first (textbook FIR)
 abbrev pub fir_row : ItemType → List ℤ → List ℤ → ℕ → List ℤ
 fir_row t h x shift =
-    listed (length x - (length h - 1)) (λ n. sat t (rnd (sum_below (length h) (λ j. item h j *ℤ item x (n + length h - 1 - j))) shift))
+    listed (length x - (length h - 1)) (λ n. sat t (rnd (sum_below (length h)
+    (λ j. item h j *ℤ item x (n + length h - 1 - j))) shift))
 
--- the number whose k bits, the highest first, are the lowest bits of items n * k to n * k + k - 1 (GNU Radio manual: pack_k_bits)
+-- the number whose k bits, the highest first, are the lowest bits of items n * k to n * k + k - 1 (GNU Radio manual:
+-- pack_k_bits)
 abbrev pub packed : ℕ → List ℤ → ℕ → ℤ
 packed k x n = sum_below k (λ j. pos (residue (item x (n * k + j)) 2 * 2 ^ (k - 1 - j)))
 
@@ -148,6 +151,7 @@ previous before x (suc n) = item x n
 abbrev pub diff_decode : ℕ → ℤ → List ℤ → List ℤ
 diff_decode m before x = listed (length x) (λ n. pos (residue (item x n -ℤ previous before x n) m))
 
--- item n of the output is the number of type `to` that equals a[n] modulo 2 to the bits of `to`: a[n] itself where it widens (own)
+-- item n of the output is the number of type `to` that equals a[n] modulo 2 to the bits of `to`: a[n] itself where it
+-- widens (own)
 abbrev pub convert : ItemType → List ℤ → List ℤ
 convert to a = listed (length a) (λ n. wrap to (item a n))

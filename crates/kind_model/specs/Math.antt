@@ -91,7 +91,8 @@ difference [] = pos 0
 difference (z ∷ []) = pos 0 -ℤ z
 difference (z ∷ y ∷ zs) = z -ℤ total (y ∷ zs)
 
--- the difference of the inputs' items, wrapped (GNU Radio manual for two inputs and more; the negative of one input, and wrapping, are own)
+-- the difference of the inputs' items, wrapped (GNU Radio manual for two inputs and more; the negative of one input,
+-- and wrapping, are own)
 abbrev pub sub : ItemType → Meaning
 sub t = record (at_rate (any_ports t) (ports 1 t) 1 1) { out = λ ts xs p n. wrap t (difference (items_at xs n)) }
 
@@ -105,7 +106,8 @@ abbrev pub quotient : ItemType → List ℤ → ℤ
 quotient t [] = pos 0
 quotient t (z ∷ zs) = divided_by t z zs
 
--- the item of the first input over those of the others in turn (GNU Radio manual; wrapping and the quotient by 0 are own)
+-- the item of the first input over those of the others in turn (GNU Radio manual; wrapping and the quotient by 0 are
+-- own)
 abbrev pub divide : ItemType → Meaning
 divide t = record (at_rate (any_ports t) (ports 1 t) 1 1) { out = λ ts xs p n. quotient t (items_at xs n) }
 
@@ -116,7 +118,10 @@ least_up_to most (z ∷ zs) = lesser z (least_up_to most zs)
 
 -- the least of the inputs' items (GNU Radio manual)
 abbrev pub minimum : ItemType → Meaning
-minimum t = record (at_rate (any_ports t) (ports 1 t) 1 1) { out = λ ts xs p n. least_up_to (greatest_of t) (items_at xs n) }
+minimum t = record (at_rate (any_ports t) (ports 1 t) 1 1) {
+  out = λ ts xs p n. least_up_to (greatest_of t)
+      (items_at xs n);
+}
 
 -- the greatest number of a list, and at least this one
 abbrev pub greatest_down_to : ℤ → List ℤ → ℤ
@@ -125,7 +130,10 @@ greatest_down_to least (z ∷ zs) = greater z (greatest_down_to least zs)
 
 -- the greatest of the inputs' items (GNU Radio manual)
 abbrev pub maximum : ItemType → Meaning
-maximum t = record (at_rate (any_ports t) (ports 1 t) 1 1) { out = λ ts xs p n. greatest_down_to (least_of t) (items_at xs n) }
+maximum t = record (at_rate (any_ports t) (ports 1 t) 1 1) {
+  out = λ ts xs p n. greatest_down_to (least_of t)
+      (items_at xs n);
+}
 
 -- the bits of all numbers of a list, joined bit for bit by op, where `none` joins to nothing new
 abbrev pub all_bits : (ℕ → ℕ → ℕ) → ℕ → ItemType → List ℤ → ℕ
@@ -134,7 +142,10 @@ all_bits op none t (z ∷ zs) = op (bits_in t z) (all_bits op none t zs)
 
 -- the inputs' items, joined bit for bit (two's complement)
 abbrev pub bitwise : (ℕ → ℕ → ℕ) → ℕ → ItemType → Meaning
-bitwise op none t = record (at_rate (any_ports t) (ports 1 t) 1 1) { out = λ ts xs p n. wrap t (pos (all_bits op none t (items_at xs n))) }
+bitwise op none t = record (at_rate (any_ports t) (ports 1 t) 1 1) {
+  out = λ ts xs p n. wrap t
+      (pos (all_bits op none t (items_at xs n)));
+}
 
 -- bitwise and of the inputs' items (GNU Radio manual)
 abbrev pub and_of : ItemType → Meaning
@@ -153,8 +164,9 @@ abbrev pub last_taken : List ℤ → List ℤ → ℕ → ℤ
 last_taken x c zero = pos 0
 last_taken x c (suc n) = if int_eq (item c n) (pos 0) then last_taken x c n else item x n
 
--- the item of the first input at the last place where the second is not 0, and 0 before there is one (GNU Radio manual, whose second input has bytes;
--- wrapping, which changes no item of the type, is own); the word has the bits of the last output
+-- the item of the first input at the last place where the second is not 0, and 0 before there is one (GNU Radio manual,
+-- whose second input has bytes; wrapping, which changes no item of the type, is own); the word has the bits of the last
+-- output
 abbrev pub sample_and_hold : ItemType → Meaning
 sample_and_hold t =
     record (at_rate (ports 2 t) (ports 1 t) 1 1) {
@@ -225,7 +237,8 @@ segment m = doublings m 7
 abbrev pub interval : ℕ → ℕ → ℕ
 interval s m = m / 2 ^ (s + 3) % 16
 
--- the byte of a number by the mu-law: sign, segment and interval, all bits turned, of the magnitude plus 132, at most 32767 (ITU-T G.711)
+-- the byte of a number by the mu-law: sign, segment and interval, all bits turned, of the magnitude plus 132, at most
+-- 32767 (ITU-T G.711)
 abbrev pub mu_law : ℤ → ℤ
 mu_law z =
     let m = min (unsigned_abs z + 132) 32767 in
@@ -239,9 +252,11 @@ ulaw_encode t = record (sync t Byte) { out = λ ts xs p n. mu_law (item (input x
 abbrev pub a_law_parts : ℕ → ℕ → ℕ
 a_law_parts sign m = sign + (16 * segment m + interval (max (segment m) 1) m)
 
--- the byte of a number by the A-law: these three of the magnitude, at most 32767, or of one 8 less below 0, every second bit turned (ITU-T G.711)
+-- the byte of a number by the A-law: these three of the magnitude, at most 32767, or of one 8 less below 0, every
+-- second bit turned (ITU-T G.711)
 abbrev pub a_law : ℤ → ℤ
-a_law z = wrap Byte (pos (bit_xor (if int_lt z (pos 0) then a_law_parts 0 (min (unsigned_abs z - 8) 32767) else a_law_parts 128 (min (unsigned_abs z) 32767)) 85))
+a_law z = wrap Byte (pos (bit_xor (if int_lt z (pos 0) then a_law_parts 0
+    (min (unsigned_abs z - 8) 32767) else a_law_parts 128 (min (unsigned_abs z) 32767)) 85))
 
 -- each item as a byte by the A-law (GNU Radio manual, of shorts; its block gives another byte from -7 to -1)
 abbrev pub alaw_encode : ItemType → Meaning
@@ -253,4 +268,8 @@ convert from to = record (sync from to) { out = λ ts xs p n. wrap to (item (inp
 
 -- the sum of the last `length` items, wrapped (GNU Radio manual; wrapping is own)
 abbrev pub moving_sum : ItemType → ℕ → Meaning
-moving_sum t length = record (sync t t) { history = length; out = λ ts xs p n. wrap t (sum_below length (item_before (input xs 0) n)) }
+moving_sum t length = record (sync t t) {
+  history = length;
+  out = λ ts xs p n. wrap t
+      (sum_below length (item_before (input xs 0) n));
+}

@@ -12,11 +12,17 @@ use Rattle.kind_model.specs.Math.{least_up_to, greatest_down_to}
 
 -- the last of each n items (GNU Radio manual)
 abbrev pub keep_one_in_n : ItemType → ℕ → Meaning
-keep_one_in_n t n = record (at_rate (ports 1 t) (ports 1 t) n 1) { out = λ ts xs p k. item (input xs 0) (k * n + n - 1) }
+keep_one_in_n t n = record (at_rate (ports 1 t) (ports 1 t) n 1) {
+  out = λ ts xs p k. item (input xs 0)
+      (k * n + n - 1);
+}
 
 -- of each n items the m from item `offset` on (GNU Radio manual)
 abbrev pub keep_m_in_n : ItemType → ℕ → ℕ → ℕ → Meaning
-keep_m_in_n t m n offset = record (at_rate (ports 1 t) (ports 1 t) n m) { out = λ ts xs p k. item (input xs 0) (k / m * n + offset + k % m) }
+keep_m_in_n t m n offset = record (at_rate (ports 1 t) (ports 1 t) n m) {
+  out = λ ts xs p k. item (input xs 0)
+      (k / m * n + offset + k % m);
+}
 
 -- which items may be kept (GNU Radio manual; the limit of n and that the items end before the next n are own)
 pub record IsKept (m n offset : ℕ) : Type 0 where
@@ -26,7 +32,10 @@ pub record IsKept (m n offset : ℕ) : Type 0 where
 
 -- the sum of each n items, wrapped (GNU Radio manual; wrapping is own)
 abbrev pub integrate : ItemType → ℕ → Meaning
-integrate t n = record (at_rate (ports 1 t) (ports 1 t) n 1) { out = λ ts xs p k. wrap t (sum_below n (λ j. item (input xs 0) (k * n + j))) }
+integrate t n = record (at_rate (ports 1 t) (ports 1 t) n 1) {
+  out = λ ts xs p k. wrap t
+      (sum_below n (λ j. item (input xs 0) (k * n + j)));
+}
 
 -- frame k of a list, where a frame has n items
 abbrev pub frame : ℕ → List ℤ → ℕ → List ℤ
@@ -34,11 +43,17 @@ frame n xs k = listed n (λ j. item xs (k * n + j))
 
 -- the least of each n items (GNU Radio manual: min of vectors)
 abbrev pub frame_minimum : ItemType → ℕ → Meaning
-frame_minimum t n = record (at_rate (ports 1 t) (ports 1 t) n 1) { out = λ ts xs p k. least_up_to (greatest_of t) (frame n (input xs 0) k) }
+frame_minimum t n = record (at_rate (ports 1 t) (ports 1 t) n 1) {
+  out = λ ts xs p k. least_up_to (greatest_of t)
+      (frame n (input xs 0) k);
+}
 
 -- the greatest of each n items (GNU Radio manual: max of vectors)
 abbrev pub frame_maximum : ItemType → ℕ → Meaning
-frame_maximum t n = record (at_rate (ports 1 t) (ports 1 t) n 1) { out = λ ts xs p k. greatest_down_to (least_of t) (frame n (input xs 0) k) }
+frame_maximum t n = record (at_rate (ports 1 t) (ports 1 t) n 1) {
+  out = λ ts xs p k. greatest_down_to (least_of t)
+      (frame n (input xs 0) k);
+}
 
 -- the place of the first of a list that is z, and its length where none is
 abbrev pub place_of : ℤ → List ℤ → ℕ
@@ -51,7 +66,10 @@ place_of_greatest t xs = place_of (greatest_down_to (least_of t) xs) xs
 
 -- the place of the first of the greatest of each n items, wrapped (GNU Radio manual; wrapping is own)
 abbrev pub argmax : ItemType → ℕ → Meaning
-argmax t n = record (at_rate (ports 1 t) (ports 1 t) n 1) { out = λ ts xs p k. wrap t (pos (place_of_greatest t (frame n (input xs 0) k))) }
+argmax t n = record (at_rate (ports 1 t) (ports 1 t) n 1) {
+  out = λ ts xs p k. wrap t
+      (pos (place_of_greatest t (frame n (input xs 0) k)));
+}
 
 -- each item n times (GNU Radio manual)
 abbrev pub repeat : ItemType → ℕ → Meaning
@@ -63,20 +81,29 @@ interleave t n = record (at_rate (ports n t) (ports 1 t) 1 n) { out = λ ts xs p
 
 -- an item for each output in turn: item m of output p is item m * n + p (GNU Radio manual); there is no output n
 abbrev pub deinterleave : ItemType → ℕ → Meaning
-deinterleave t n = record (at_rate (ports 1 t) (ports n t) n 1) { out = λ ts xs p m. if nat_lt p n then item (input xs 0) (m * n + p) else pos 0 }
+deinterleave t n = record (at_rate (ports 1 t) (ports n t) n 1) {
+  out = λ ts xs p m. if nat_lt p n then item
+      (input xs 0) (m * n + p) else pos 0;
+}
 
 -- item r of a period that has `values` from its item `offset` on, and else the stream's items, in turn from item a on
 abbrev pub inserted : List ℤ → ℕ → List ℤ → ℕ → ℕ → ℤ
 inserted values offset xs a r =
-    if nat_lt r offset then item xs (a + r) else if nat_lt r (offset + length values) then item values (r - offset) else item xs (a + (r - length values))
+    if nat_lt r offset then item xs (a + r) else if nat_lt r (offset + length values) then item values
+    (r - offset) else item xs (a + (r - length values))
 
--- `values` once in each `period` output items, from item `offset` of these on, and the input in all other places (GNU Radio manual; its block counts `offset` from the period)
+-- `values` once in each `period` output items, from item `offset` of these on, and the input in all other places (GNU
+-- Radio manual; its block counts `offset` from the period)
 abbrev pub insert : ItemType → List ℤ → ℕ → ℕ → Meaning
 insert t values period offset =
     let rest = period - length values in
-    record (at_rate (ports 1 t) (ports 1 t) rest period) { out = λ ts xs p k. inserted values offset (input xs 0) (k / period * rest) (k % period) }
+    record (at_rate (ports 1 t) (ports 1 t) rest period) {
+      out = λ ts xs p k. inserted values offset (input xs 0)
+          (k / period * rest) (k % period);
+    }
 
--- what may be put into a stream: 1 to 256 items of its type, which leave room for others and lie whole in a period (GNU Radio manual; the limits are own)
+-- what may be put into a stream: 1 to 256 items of its type, which leave room for others and lie whole in a period (GNU
+-- Radio manual; the limits are own)
 pub record IsInsert (t : ItemType) (values : List ℤ) (period offset : ℕ) : Type 0 where
   pub some : 1 ≤ length values
   pub few : length values ≤ 256
@@ -93,7 +120,10 @@ from_place order j = slice_index_or order j 0
 abbrev pub permute : ItemType → List ℕ → Meaning
 permute t order =
     let n = length order in
-    record (at_rate (ports 1 t) (ports 1 t) n n) { out = λ ts xs p k. item (input xs 0) (k / n * n + from_place order (k % n)) }
+    record (at_rate (ports 1 t) (ports 1 t) n n) {
+      out = λ ts xs p k. item (input xs 0)
+          (k / n * n + from_place order (k % n));
+    }
 
 -- an order of 1 to 256 places: each of its numbers is below its length, and no two are equal
 pub record IsOrder (order : List ℕ) : Type 0 where
@@ -153,7 +183,8 @@ abbrev pub round_item : List ℕ → ℕ → List (List ℤ) → ℕ → ℕ →
 round_item [] p xs g r = pos 0
 round_item (l ∷ ls) p xs g r = if nat_lt r l then item (input xs p) (g * l + r) else round_item ls (suc p) xs g (r - l)
 
--- rounds of lengths[p] items of each input p in turn (GNU Radio manual; whole rounds only and the place of tags are own)
+-- rounds of lengths[p] items of each input p in turn (GNU Radio manual; whole rounds only and the place of tags are
+-- own)
 abbrev pub stream_mux : ItemType → List ℕ → Meaning
 stream_mux t lengths =
     let all = sum lengths in

@@ -7,8 +7,9 @@ use Rattle.stream_model.specs.Lists.{below, item}
 use Rattle.stream_model.specs.Meaning.{Meaning, input}
 use Rattle.stream_model.specs.Shapes.{ports, at_rate}
 
--- a machine and its blocks: how many symbols there are; for each row of its table, which lie as those of state_machine do, the next state and the
--- number of the output; how many outputs there are; how many steps a block has; and in which state it begins and in which it ends, where that is known
+-- a machine and its blocks: how many symbols there are; for each row of its table, which lie as those of state_machine
+-- do, the next state and the number of the output; how many outputs there are; how many steps a block has; and in which
+-- state it begins and in which it ends, where that is known
 pub record Trellis : Type 0 where
   pub symbols : ℕ
   pub next : List ℕ
@@ -30,8 +31,8 @@ may_be (Some known) s = known == s
 abbrev pub rows_to : Trellis → ℕ → List ℕ
 rows_to m s = filter (λ r. slice_index_or m.next r 0 == s) (below (length m.next))
 
--- the paths of so many steps to a state, each as the rows that it takes, the last first. They ascend by their last rows, those with the same last row by
--- the rows before these, and so on
+-- the paths of so many steps to a state, each as the rows that it takes, the last first. They ascend by their last
+-- rows, those with the same last row by the rows before these, and so on
 abbrev pub paths_to : Trellis → ℕ → ℕ → List (List ℕ)
 paths_to m zero s = if may_be m.start s then [] ∷ [] else []
 paths_to m (suc k) s = flat_map (λ r. map (λ path. r ∷ path) (paths_to m k (r / m.symbols))) (rows_to m s)
@@ -68,16 +69,19 @@ symbol_at m (Some path) j = slice_index_or path (m.steps - 1 - j) 0 % m.symbols
 abbrev pub decoded : Trellis → List ℤ → ℕ → ℕ → ℕ
 decoded m x a j = symbol_at m (cheapest (cost m x a m.steps) (paths m)) j
 
--- of each block of metrics, one for each output at each step, the symbols of the first of the paths that cost the least (GNU Radio manual:
--- trellis.viterbi, whose lists of the rows that lead to a state ascend, and which keeps the first of the least; whole metrics, and zeros where no path
--- goes from the known start to the known end, are own)
+-- of each block of metrics, one for each output at each step, the symbols of the first of the paths that cost the least
+-- (GNU Radio manual: trellis.viterbi, whose lists of the rows that lead to a state ascend, and which keeps the first of
+-- the least; whole metrics, and zeros where no path goes from the known start to the known end, are own)
 abbrev pub viterbi : ItemType → Trellis → Meaning
 viterbi t m =
     let taken = m.steps * m.outputs in
-    record (at_rate (ports 1 t) (ports 1 Byte) taken m.steps) { out = λ ts xs p k. pos (decoded m (input xs 0) (k / m.steps * taken) (k % m.steps)) }
+    record (at_rate (ports 1 t) (ports 1 Byte) taken m.steps) {
+      out = λ ts xs p k. pos
+          (decoded m (input xs 0) (k / m.steps * taken) (k % m.steps));
+    }
 
--- which machines and blocks there are: whole rows of symbols, each next state and each known state a state, each output one of those that metrics are for
--- (the limits are own)
+-- which machines and blocks there are: whole rows of symbols, each next state and each known state a state, each output
+-- one of those that metrics are for (the limits are own)
 pub record IsTrellis (m : Trellis) : Type 0 where
   pub some : 1 ≤ m.symbols
   pub bytes : m.symbols ≤ 256

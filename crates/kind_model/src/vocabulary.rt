@@ -20,6 +20,7 @@ pub struct Checksum {
     pub init: u64,
     /// What is added to the register at the end, modulo 2.
     pub final_xor: u64,
-    /// Which bit of a byte comes first, and whether the first bit of the register is the highest of the checksum or the lowest.
+    /// Which bit of a byte comes first, and whether the first bit of the register is the highest of the checksum or the
+    /// lowest.
     pub order: BitOrder,
 }

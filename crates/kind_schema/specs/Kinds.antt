@@ -41,7 +41,8 @@ options_of _ = keys.Tags ∷ keys.Multiple ∷ keys.Capacity ∷ []
 
 -- the keys of each kind, in the order in which they are tested
 abbrev pub keys_of : KindName → List Key
-keys_of kind = keys.Name ∷ keys.Kind ∷ (type_keys (types_of kind) ++ map (λ row. parameter row.0) (parameters_of kind) ++ options_of kind)
+keys_of kind = keys.Name ∷ keys.Kind ∷ (type_keys (types_of kind) ++ map (λ row. parameter row.0) (parameters_of kind)
+    ++ options_of kind)
 
 -- whether a block of the kind keeps a list of its table or one that it makes, for which it takes memory
 abbrev pub keeps_list : KindName → Bool
@@ -64,7 +65,8 @@ needs true p rest = rest
 needs false p rest = Err p
 
 -- what follows, where each of some parameters lies in its range; or the first that does not
-abbrev pub tested_by : List (Parameter × Range) → ItemType → Members → Result Meaning Parameter → Result Meaning Parameter
+abbrev pub tested_by : List (Parameter × Range) → ItemType → Members → Result Meaning Parameter
+    → Result Meaning Parameter
 tested_by [] t ms rest = rest
 tested_by (row ∷ rows) t ms rest = needs (lies_in row.1 t ms row.0) row.0 (tested_by rows t ms rest)
 
@@ -119,22 +121,27 @@ meant kinds.Or t ms = or_of t
 meant kinds.Xor t ms = xor_of t
 meant kinds.SampleAndHold t ms = sample_and_hold t
 meant kinds.MapBb t ms = map_bb (numbers_at ms (parameter parameters.Map))
-meant kinds.Table t ms = table (type_or_byte (type_at ms (parameter parameters.To))) (numbers_at ms (parameter parameters.Values))
+meant kinds.Table t ms = table (type_or_byte (type_at ms (parameter parameters.To)))
+    (numbers_at ms (parameter parameters.Values))
 meant kinds.Convert t ms = convert t (type_or_byte (type_at ms (parameter parameters.To)))
 meant kinds.BinarySlicer t ms = binary_slicer t (number_at ms (parameter parameters.Threshold))
 meant kinds.UlawEncode t ms = ulaw_encode t
 meant kinds.AlawEncode t ms = alaw_encode t
 meant kinds.MovingSum t ms = moving_sum t (small_at ms (parameter parameters.Length))
-meant kinds.Fir t ms = fir t (numbers_at ms (parameter parameters.Taps)) (small_at ms (parameter parameters.Decimation)) (small_at ms (parameter parameters.Shift))
-meant kinds.InterpFir t ms = interp_fir t (numbers_at ms (parameter parameters.Taps)) (small_at ms (parameter parameters.Interpolation)) (small_at ms (parameter parameters.Shift))
+meant kinds.Fir t ms = fir t (numbers_at ms (parameter parameters.Taps)) (small_at ms (parameter parameters.Decimation))
+    (small_at ms (parameter parameters.Shift))
+meant kinds.InterpFir t ms = interp_fir t (numbers_at ms (parameter parameters.Taps))
+    (small_at ms (parameter parameters.Interpolation)) (small_at ms (parameter parameters.Shift))
 meant kinds.KeepOneInN t ms = keep_one_in_n t (small_at ms (parameter parameters.N))
-meant kinds.KeepMInN t ms = keep_m_in_n t (small_at ms (parameter parameters.M)) (small_at ms (parameter parameters.N)) (small_at ms (parameter parameters.Offset))
+meant kinds.KeepMInN t ms = keep_m_in_n t (small_at ms (parameter parameters.M)) (small_at ms (parameter parameters.N))
+    (small_at ms (parameter parameters.Offset))
 meant kinds.Integrate t ms = integrate t (small_at ms (parameter parameters.N))
 meant kinds.FrameMinimum t ms = frame_minimum t (small_at ms (parameter parameters.N))
 meant kinds.FrameMaximum t ms = frame_maximum t (small_at ms (parameter parameters.N))
 meant kinds.Argmax t ms = argmax t (small_at ms (parameter parameters.N))
 meant kinds.Repeat t ms = repeat t (small_at ms (parameter parameters.N))
-meant kinds.Insert t ms = insert t (numbers_at ms (parameter parameters.Values)) (small_at ms (parameter parameters.Period)) (small_at ms (parameter parameters.Offset))
+meant kinds.Insert t ms = insert t (numbers_at ms (parameter parameters.Values))
+    (small_at ms (parameter parameters.Period)) (small_at ms (parameter parameters.Offset))
 meant kinds.Pattern t ms = pattern t (numbers_at ms (parameter parameters.Values))
 meant kinds.Counter t ms = counter t (small_at ms (parameter parameters.N))
 meant kinds.Permute t ms = permute t (unsigned (numbers_at ms (parameter parameters.Places)))
@@ -146,24 +153,33 @@ meant kinds.SkipHead t ms = skiphead t (count_at ms (parameter parameters.N))
 meant kinds.Delay t ms = delay t (small_at ms (parameter parameters.N))
 meant kinds.PackKBits t ms = pack_k_bits (small_at ms (parameter parameters.K))
 meant kinds.UnpackKBits t ms = unpack_k_bits (small_at ms (parameter parameters.K))
-meant kinds.RepackBits t ms = repack_bits (small_at ms (parameter parameters.K)) (small_at ms (parameter parameters.L)) (order_or_msb (order_at ms (parameter parameters.Order)))
-meant kinds.PackedToUnpacked t ms = packed_to_unpacked t (small_at ms (parameter parameters.Bits)) (order_or_msb (order_at ms (parameter parameters.Order)))
-meant kinds.UnpackedToPacked t ms = unpacked_to_packed t (small_at ms (parameter parameters.Bits)) (order_or_msb (order_at ms (parameter parameters.Order)))
+meant kinds.RepackBits t ms = repack_bits (small_at ms (parameter parameters.K)) (small_at ms (parameter parameters.L))
+    (order_or_msb (order_at ms (parameter parameters.Order)))
+meant kinds.PackedToUnpacked t ms = packed_to_unpacked t (small_at ms (parameter parameters.Bits))
+    (order_or_msb (order_at ms (parameter parameters.Order)))
+meant kinds.UnpackedToPacked t ms = unpacked_to_packed t (small_at ms (parameter parameters.Bits))
+    (order_or_msb (order_at ms (parameter parameters.Order)))
 meant kinds.DiffEncoder t ms = diff_encoder (small_at ms (parameter parameters.Modulus))
 meant kinds.DiffDecoder t ms = diff_decoder (small_at ms (parameter parameters.Modulus))
-meant kinds.Scrambler t ms = scrambler (small_at ms (parameter parameters.Bits)) (count_at ms (parameter parameters.Mask)) (count_at ms (parameter parameters.Init))
-meant kinds.Descrambler t ms = descrambler (small_at ms (parameter parameters.Bits)) (count_at ms (parameter parameters.Mask)) (count_at ms (parameter parameters.Init))
-meant kinds.AdditiveScrambler t ms = additive_scrambler (small_at ms (parameter parameters.Bits)) (count_at ms (parameter parameters.Mask)) (count_at ms (parameter parameters.Init))
-meant kinds.CorrelateAccessCode t ms = correlate_access_code (code_at ms (parameter parameters.Code)) (length (text_at ms (parameter parameters.Code))) (small_at ms (parameter parameters.Threshold))
+meant kinds.Scrambler t ms = scrambler (small_at ms (parameter parameters.Bits))
+    (count_at ms (parameter parameters.Mask)) (count_at ms (parameter parameters.Init))
+meant kinds.Descrambler t ms = descrambler (small_at ms (parameter parameters.Bits))
+    (count_at ms (parameter parameters.Mask)) (count_at ms (parameter parameters.Init))
+meant kinds.AdditiveScrambler t ms = additive_scrambler (small_at ms (parameter parameters.Bits))
+    (count_at ms (parameter parameters.Mask)) (count_at ms (parameter parameters.Init))
+meant kinds.CorrelateAccessCode t ms = correlate_access_code (code_at ms (parameter parameters.Code))
+    (length (text_at ms (parameter parameters.Code))) (small_at ms (parameter parameters.Threshold))
 meant kinds.CrcAppend t ms = crc_append (small_at ms (parameter parameters.N)) (checksum_at ms)
 meant kinds.CrcCheck t ms = crc_check (small_at ms (parameter parameters.N)) (checksum_at ms)
 meant kinds.StateMachine t ms =
-    state_machine (small_at ms (parameter parameters.Symbols)) (unsigned (numbers_at ms (parameter parameters.Next))) (numbers_at ms (parameter parameters.Output)) (small_at ms (parameter parameters.Init))
+    state_machine (small_at ms (parameter parameters.Symbols)) (unsigned (numbers_at ms (parameter parameters.Next)))
+    (numbers_at ms (parameter parameters.Output)) (small_at ms (parameter parameters.Init))
 meant kinds.Viterbi t ms = viterbi t (trellis_at ms)
 
 -- the same, where the type and the parameters are such as the kind takes; or the first of them that is bad
 abbrev pub made_of : KindName → ItemType → Members → Result Meaning Parameter
-made_of kind t ms = needs (are_among (types_of kind) t) parameters.ItemType (tested_by (parameters_of kind) t ms (Ok (meant kind t ms)))
+made_of kind t ms = needs (are_among (types_of kind) t) parameters.ItemType
+    (tested_by (parameters_of kind) t ms (Ok (meant kind t ms)))
 
 -- the same, where the type comes first
 abbrev pub made_at : KindName → Option ItemType → Members → Result Meaning Parameter

@@ -38,7 +38,8 @@ IsRefused takes r Memory = takes ≡ true
 -- what a register of these bits, this mask and this first word is for, or the first of the three that is bad
 abbrev pub registered : (ℕ → ℕ → ℕ → Meaning) → ℕ → ℕ → ℕ → Result Meaning Parameter
 registered meant bits mask init =
-    needs (is_within 2 32 bits) parameters.Bits (needs (has_bits 1 bits mask) parameters.Mask (needs (has_bits 0 bits init) parameters.Init (Ok (meant bits mask init))))
+    needs (is_within 2 32 bits) parameters.Bits (needs (has_bits 1 bits mask) parameters.Mask
+    (needs (has_bits 0 bits init) parameters.Init (Ok (meant bits mask init))))
 
 -- the registers of a table's parameters, and what is wrong with them
 abbrev pub bits_at : Members → ℕ
@@ -51,10 +52,12 @@ abbrev pub init_at : Members → ℕ
 init_at ms = count_at ms (parameter parameters.Init)
 
 abbrev pub IsRegisterOf : Members → Register → Type 0
-IsRegisterOf ms r = (meant : ℕ → ℕ → ℕ → Meaning) → registered meant (bits_at ms) (mask_at ms) (init_at ms) ≡ Ok (meant r.bits r.mask r.init)
+IsRegisterOf ms r = (meant : ℕ → ℕ → ℕ → Meaning) → registered meant (bits_at ms) (mask_at ms) (init_at ms)
+    ≡ Ok (meant r.bits r.mask r.init)
 
 abbrev pub IsBadRegister : Members → ParamFault → Type 0
-IsBadRegister ms fault = (meant : ℕ → ℕ → ℕ → Meaning) → IsBad false (registered meant (bits_at ms) (mask_at ms) (init_at ms)) fault
+IsBadRegister ms fault = (meant : ℕ → ℕ → ℕ → Meaning) → IsBad false
+    (registered meant (bits_at ms) (mask_at ms) (init_at ms)) fault
 
 -- what follows, where there is no fault
 abbrev pub unless : {A : Type 0} → Option KeyFault → Result A KeyFault → Result A KeyFault
@@ -66,7 +69,8 @@ abbrev pub only : {A : Type 0} → Bool → Result A KeyFault → Result A KeyFa
 only true rest = rest
 only false rest = Err UnknownKey
 
--- the kind of a block whose keys are tested: its kind is that of a name, it has the keys of the kind, and at each stands what may stand there
+-- the kind of a block whose keys are tested: its kind is that of a name, it has the keys of the kind, and at each
+-- stands what may stand there
 abbrev pub tested_as : Option KindName → Members → Result KindName KeyFault
 tested_as None ms = Err UnknownKind
 tested_as (Some kind) ms = only (has_only (keys_of kind) ms) (unless (keys_fault ms (keys_of kind)) (Ok kind))

@@ -86,7 +86,8 @@ numbers_at ms key = numbers_of (items_at ms key)
 -- the type of a text, none where it is the text of no type. Where there is no text it is the type of bytes
 abbrev pub type_named : List ℕ → Option ItemType
 type_named text =
-    if bytes_eq text (codes "byte") then Some Byte else if bytes_eq text (codes "short") then Some Short else if bytes_eq text (codes "int") then Some Int else None
+    if bytes_eq text (codes "byte") then Some Byte else if bytes_eq text (codes "short") then Some
+    Short else if bytes_eq text (codes "int") then Some Int else None
 
 abbrev pub type_in : Option (List ℕ) → Option ItemType
 type_in None = Some Byte
@@ -102,7 +103,8 @@ type_or_byte (Some t) = t
 
 -- the order of bits of a text, none where it is the text of no order. Where there is no text the highest comes first
 abbrev pub order_named : List ℕ → Option BitOrder
-order_named text = if bytes_eq text (codes "msb_first") then Some MsbFirst else if bytes_eq text (codes "lsb_first") then Some LsbFirst else None
+order_named text = if bytes_eq text (codes "msb_first") then Some MsbFirst else if bytes_eq text
+    (codes "lsb_first") then Some LsbFirst else None
 
 abbrev pub order_in : Option (List ℕ) → Option BitOrder
 order_in None = Some MsbFirst
@@ -126,7 +128,8 @@ code_at ms key = code_from 0 (text_at ms key)
 -- which tags pass, by a text, none where it is the text of no choice. Where there is no text all do
 abbrev pub policy_named : List ℕ → Option Policy
 policy_named text =
-    if bytes_eq text (codes "all") then Some policy.All else if bytes_eq text (codes "none") then Some policy.None else if bytes_eq text (codes "one") then Some policy.One else None
+    if bytes_eq text (codes "all") then Some policy.All else if bytes_eq text (codes "none") then Some
+    policy.None else if bytes_eq text (codes "one") then Some policy.One else None
 
 -- all items of an array pass a test
 abbrev pub each_item : (Data → Bool) → Items → Bool

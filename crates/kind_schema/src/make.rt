@@ -199,7 +199,8 @@ fn make_keep_m_in_n(item: ItemType, table: &Table) -> Result<Kind, ParamFault>
 }
 
 fn make_repack_bits(table: &Table) -> Result<Kind, ParamFault>
-    ensures ok { IfOk result (λ block. made_of kinds.RepackBits types.Byte (table_view table.now) ≡ Ok (meaning_of block)) }
+    ensures ok { IfOk result (λ block. made_of kinds.RepackBits types.Byte (table_view table.now)
+        ≡ Ok (meaning_of block)) }
     ensures bad { IfErr result (IsBad false (made_of kinds.RepackBits types.Byte (table_view table.now))) }
 {
     let order = bit_order(table)?;
@@ -214,7 +215,8 @@ fn make_repack_bits(table: &Table) -> Result<Kind, ParamFault>
 }
 
 fn make_packed_to_unpacked(item: ItemType, table: &Table) -> Result<Kind, ParamFault>
-    ensures ok { IfOk result (λ block. made_of kinds.PackedToUnpacked item (table_view table.now) ≡ Ok (meaning_of block)) }
+    ensures ok { IfOk result (λ block. made_of kinds.PackedToUnpacked item (table_view table.now)
+        ≡ Ok (meaning_of block)) }
     ensures bad { IfErr result (IsBad false (made_of kinds.PackedToUnpacked item (table_view table.now))) }
 {
     let order = bit_order(table)?;
@@ -225,7 +227,8 @@ fn make_packed_to_unpacked(item: ItemType, table: &Table) -> Result<Kind, ParamF
 }
 
 fn make_unpacked_to_packed(item: ItemType, table: &Table) -> Result<Kind, ParamFault>
-    ensures ok { IfOk result (λ block. made_of kinds.UnpackedToPacked item (table_view table.now) ≡ Ok (meaning_of block)) }
+    ensures ok { IfOk result (λ block. made_of kinds.UnpackedToPacked item (table_view table.now)
+        ≡ Ok (meaning_of block)) }
     ensures bad { IfErr result (IsBad false (made_of kinds.UnpackedToPacked item (table_view table.now))) }
 {
     let order = bit_order(table)?;
@@ -236,7 +239,8 @@ fn make_unpacked_to_packed(item: ItemType, table: &Table) -> Result<Kind, ParamF
 }
 
 fn make_correlate_access_code(table: &Table) -> Result<Kind, ParamFault>
-    ensures ok { IfOk result (λ block. made_of kinds.CorrelateAccessCode types.Byte (table_view table.now) ≡ Ok (meaning_of block)) }
+    ensures ok { IfOk result (λ block. made_of kinds.CorrelateAccessCode types.Byte (table_view table.now)
+        ≡ Ok (meaning_of block)) }
     ensures bad { IfErr result (IsBad false (made_of kinds.CorrelateAccessCode types.Byte (table_view table.now))) }
 {
     let text = text_at(table, Key::Parameter(Parameter::Code)).as_bytes();
@@ -251,7 +255,8 @@ fn make_correlate_access_code(table: &Table) -> Result<Kind, ParamFault>
 }
 
 fn make_scrambler(table: &Table) -> Result<Kind, ParamFault>
-    ensures ok { IfOk result (λ block. made_of kinds.Scrambler types.Byte (table_view table.now) ≡ Ok (meaning_of block)) }
+    ensures ok { IfOk result (λ block. made_of kinds.Scrambler types.Byte (table_view table.now)
+        ≡ Ok (meaning_of block)) }
     ensures bad { IfErr result (IsBad false (made_of kinds.Scrambler types.Byte (table_view table.now))) }
 {
     match register(table) {
@@ -261,7 +266,8 @@ fn make_scrambler(table: &Table) -> Result<Kind, ParamFault>
 }
 
 fn make_descrambler(table: &Table) -> Result<Kind, ParamFault>
-    ensures ok { IfOk result (λ block. made_of kinds.Descrambler types.Byte (table_view table.now) ≡ Ok (meaning_of block)) }
+    ensures ok { IfOk result (λ block. made_of kinds.Descrambler types.Byte (table_view table.now)
+        ≡ Ok (meaning_of block)) }
     ensures bad { IfErr result (IsBad false (made_of kinds.Descrambler types.Byte (table_view table.now))) }
 {
     match register(table) {
@@ -271,7 +277,8 @@ fn make_descrambler(table: &Table) -> Result<Kind, ParamFault>
 }
 
 fn make_additive_scrambler(table: &Table) -> Result<Kind, ParamFault>
-    ensures ok { IfOk result (λ block. made_of kinds.AdditiveScrambler types.Byte (table_view table.now) ≡ Ok (meaning_of block)) }
+    ensures ok { IfOk result (λ block. made_of kinds.AdditiveScrambler types.Byte (table_view table.now)
+        ≡ Ok (meaning_of block)) }
     ensures bad { IfErr result (IsBad false (made_of kinds.AdditiveScrambler types.Byte (table_view table.now))) }
 {
     match register(table) {

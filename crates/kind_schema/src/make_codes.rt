@@ -20,8 +20,10 @@ use toml::Table;
 // The checksum that a table describes, with any numbers.
 fn checksum(table: &Table) -> Result<Checksum, ParamFault>
     ensures ok { IfOk result (λ rule. rule ≡ checksum_at (table_view table.now)) }
-    ensures order { IfOk result (λ rule. order_at (table_view table.now) (key.Parameter Parameter.Order) ≡ Some rule.order) }
-    ensures err { IfErr result (λ fault. (fault ≡ ParamFault.BadParameter Parameter.Order) × (order_at (table_view table.now) (key.Parameter Parameter.Order) ≡ None)) }
+    ensures order { IfOk result (λ rule. order_at (table_view table.now) (key.Parameter Parameter.Order)
+        ≡ Some rule.order) }
+    ensures err { IfErr result (λ fault. (fault ≡ ParamFault.BadParameter Parameter.Order)
+        × (order_at (table_view table.now) (key.Parameter Parameter.Order) ≡ None)) }
 {
     Ok(Checksum {
         order: bit_order(table)?,
@@ -33,7 +35,8 @@ fn checksum(table: &Table) -> Result<Checksum, ParamFault>
 }
 
 pub(crate) fn make_crc_append(alloc: Global, table: &Table) -> Result<Kind, ParamFault>
-    ensures ok { IfOk result (λ block. made_of kinds.CrcAppend types.Byte (table_view table.now) ≡ Ok (meaning_of block)) }
+    ensures ok { IfOk result (λ block. made_of kinds.CrcAppend types.Byte (table_view table.now)
+        ≡ Ok (meaning_of block)) }
     ensures bad { IfErr result (IsBad true (made_of kinds.CrcAppend types.Byte (table_view table.now))) }
 {
     let rule = checksum(table)?;
@@ -44,7 +47,8 @@ pub(crate) fn make_crc_append(alloc: Global, table: &Table) -> Result<Kind, Para
 }
 
 pub(crate) fn make_crc_check(alloc: Global, table: &Table) -> Result<Kind, ParamFault>
-    ensures ok { IfOk result (λ block. made_of kinds.CrcCheck types.Byte (table_view table.now) ≡ Ok (meaning_of block)) }
+    ensures ok { IfOk result (λ block. made_of kinds.CrcCheck types.Byte (table_view table.now)
+        ≡ Ok (meaning_of block)) }
     ensures bad { IfErr result (IsBad true (made_of kinds.CrcCheck types.Byte (table_view table.now))) }
 {
     let rule = checksum(table)?;
@@ -55,7 +59,8 @@ pub(crate) fn make_crc_check(alloc: Global, table: &Table) -> Result<Kind, Param
 }
 
 pub(crate) fn make_state_machine(alloc: Global, table: &Table) -> Result<Kind, ParamFault>
-    ensures ok { IfOk result (λ block. made_of kinds.StateMachine types.Byte (table_view table.now) ≡ Ok (meaning_of block)) }
+    ensures ok { IfOk result (λ block. made_of kinds.StateMachine types.Byte (table_view table.now)
+        ≡ Ok (meaning_of block)) }
     ensures bad { IfErr result (IsBad true (made_of kinds.StateMachine types.Byte (table_view table.now))) }
 {
     let (symbols, start) = (

@@ -61,7 +61,8 @@ pub(crate) fn long_numbers(table: &Table, parameter: Parameter) -> ArrayVec<i64,
 /// The type that a converter gives.
 pub(crate) fn target(table: &Table) -> Result<ItemType, ParamFault>
     ensures ok { IfOk result (λ to. tables.type_at (table_view table.now) (key.Parameter Parameter.To) ≡ Some to) }
-    ensures err { IfErr result (λ fault. (fault ≡ ParamFault.BadParameter Parameter.To) × (tables.type_at (table_view table.now) (key.Parameter Parameter.To) ≡ None)) }
+    ensures err { IfErr result (λ fault. (fault ≡ ParamFault.BadParameter Parameter.To)
+        × (tables.type_at (table_view table.now) (key.Parameter Parameter.To) ≡ None)) }
 {
     match type_at(table, Key::Parameter(Parameter::To)) {
         Some(to) => Ok(to),
@@ -71,8 +72,10 @@ pub(crate) fn target(table: &Table) -> Result<ItemType, ParamFault>
 
 /// The order in which bits are taken or given.
 pub(crate) fn bit_order(table: &Table) -> Result<BitOrder, ParamFault>
-    ensures ok { IfOk result (λ order. tables.order_at (table_view table.now) (key.Parameter Parameter.Order) ≡ Some order) }
-    ensures err { IfErr result (λ fault. (fault ≡ ParamFault.BadParameter Parameter.Order) × (tables.order_at (table_view table.now) (key.Parameter Parameter.Order) ≡ None)) }
+    ensures ok { IfOk result (λ order. tables.order_at (table_view table.now) (key.Parameter Parameter.Order)
+        ≡ Some order) }
+    ensures err { IfErr result (λ fault. (fault ≡ ParamFault.BadParameter Parameter.Order)
+        × (tables.order_at (table_view table.now) (key.Parameter Parameter.Order) ≡ None)) }
 {
     match order_at(table, Key::Parameter(Parameter::Order)) {
         Some(order) => Ok(order),

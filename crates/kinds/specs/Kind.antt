@@ -107,7 +107,8 @@ meaning_of-lawful (AndConst b) = and_const-lawful b.item b.value b.in_range
 meaning_of-lawful (OrConst b) = or_const-lawful b.item b.value b.in_range
 meaning_of-lawful (XorConst b) = xor_const-lawful b.item b.value b.in_range
 meaning_of-lawful (Scale b) = scale-lawful b.item b.factor b.shift b.in_range
-meaning_of-lawful (Clip b) = clip-lawful b.makes.item b.makes.low b.makes.high b.makes.low_in_range b.makes.high_in_range
+meaning_of-lawful (Clip b) = clip-lawful b.makes.item b.makes.low b.makes.high b.makes.low_in_range
+    b.makes.high_in_range
 meaning_of-lawful (Abs b) = abs-lawful b.makes.item
 meaning_of-lawful (Not b) = not_of-lawful b.makes.item
 meaning_of-lawful (Mute b) = mute-lawful b.item b.on b.above b.below
@@ -154,9 +155,12 @@ meaning_of-lawful (PackedToUnpacked b) = repacking_of-lawful b
 meaning_of-lawful (UnpackedToPacked b) = repacking_of-lawful b
 meaning_of-lawful (DiffEncoder b) = diff_encoder-lawful b.modulus.value (some_modulus b.modulus) b.modulus.few
 meaning_of-lawful (DiffDecoder b) = diff_decoder-lawful b.modulus.value (some_modulus b.modulus) b.modulus.few
-meaning_of-lawful (Scrambler b) = scrambler-lawful b.register.bits b.register.mask b.register.init b.register.is.init_most
-meaning_of-lawful (Descrambler b) = descrambler-lawful b.register.bits b.register.mask b.register.init b.register.is.init_most
-meaning_of-lawful (AdditiveScrambler b) = additive_scrambler-lawful b.register.bits b.register.mask b.register.init b.register.is.init_most
+meaning_of-lawful (Scrambler b) = scrambler-lawful b.register.bits b.register.mask b.register.init
+    b.register.is.init_most
+meaning_of-lawful (Descrambler b) = descrambler-lawful b.register.bits b.register.mask b.register.init
+    b.register.is.init_most
+meaning_of-lawful (AdditiveScrambler b) = additive_scrambler-lawful b.register.bits b.register.mask b.register.init
+    b.register.is.init_most
 meaning_of-lawful (CorrelateAccessCode b) = correlate_access_code-lawful b.code b.length b.threshold
 meaning_of-lawful (CrcAppend b) = crc_append_of-lawful b
 meaning_of-lawful (CrcCheck b) = crc_check_of-lawful b
@@ -210,7 +214,8 @@ meaning_of-same (Pattern a) (Pattern b) e = pattern_of-same a b e
 meaning_of-same (Counter a) (Counter b) e = same_sized counter a.item b.item a.n b.n e
 meaning_of-same (Permute a) (Permute b) e = permute_of-same a b e
 meaning_of-same (Interleave a) (Interleave b) e = same_sized interleave a.item b.item a.ports.value b.ports.value e
-meaning_of-same (Deinterleave a) (Deinterleave b) e = same_sized deinterleave a.item b.item a.ports.value b.ports.value e
+meaning_of-same (Deinterleave a) (Deinterleave b) e = same_sized deinterleave a.item b.item a.ports.value b.ports.value
+    e
 meaning_of-same (StreamMux a) (StreamMux b) e = stream_mux_of-same a b e
 meaning_of-same (Head a) (Head b) e = same_sized head a.item b.item a.n b.n e
 meaning_of-same (SkipHead a) (SkipHead b) e = same_sized skiphead a.item b.item a.n b.n e

@@ -5,7 +5,8 @@ ghost use Rattle.kind_model.specs.Ends.{vector_source};
 use block_trait::{Batch, Block, ByPace, Held, Role, Shape, Single, ports, work_single};
 use items::{ItemType, Items};
 
-/// The tape that the block is fed, item for item. As GNU Radio's `vector_source_x`, but it starts empty and does not repeat.
+/// The tape that the block is fed, item for item. As GNU Radio's `vector_source_x`, but it starts empty and does not
+/// repeat.
 #[derive(Debug, Drop, PartialEq, Eq)]
 pub struct VectorSource {
     item: ItemType,

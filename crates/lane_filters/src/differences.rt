@@ -79,7 +79,8 @@ fn reduced(m: u32, now: &[u8], past: &[u8]) -> u8x16
     reduced_by(m, whole, inverse, now, past)
 }
 
-/// Sixteen differences modulo `m`, where `whole` is the multiple of `m` that is added, and the division by `m` is a multiplication by `inverse`.
+/// Sixteen differences modulo `m`, where `whole` is the multiple of `m` that is added, and the division by `m` is a
+/// multiplication by `inverse`.
 #[inline(always)]
 fn reduced_by(m: u32, whole: u32, inverse: u32, now: &[u8], past: &[u8]) -> u8x16
     requires least { 2 ≤ m }

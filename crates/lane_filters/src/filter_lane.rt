@@ -58,8 +58,10 @@ pub trait FilterLane: ProductLane {
         requires place { at + 32 ≤ length out.old }
         requires taps_in_range { AreItems Short h.now }
         requires items_in_range { All (λ x. IsItem Self.kind (Self.number x)) x.now }
-        requires done { take at (map Self.number out.old) ≡ listed at (output Self.kind h.now (map Self.number x.now) shift) }
-        ensures { take (at + 32) (map Self.number out.new) ≡ listed (at + 32) (output Self.kind h.now (map Self.number x.now) shift) };
+        requires done { take at (map Self.number out.old) ≡ listed at (output Self.kind h.now (map Self.number x.now)
+            shift) }
+        ensures { take (at + 32) (map Self.number out.new) ≡ listed (at + 32)
+            (output Self.kind h.now (map Self.number x.now) shift) };
 }
 
 impl ProductLane for i16 {

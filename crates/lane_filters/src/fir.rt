@@ -79,7 +79,8 @@ pub(crate) fn write_wide<T: ProductLane>(h: &[i16], x: &[T], at: usize, shift: u
     requires taps_in_range { AreItems Short h.now }
     requires items_in_range { All (λ x. IsItem T.kind (T.number x)) x.now }
     requires done { take at (map T.number out.old) ≡ listed at (output T.kind h.now (map T.number x.now) shift) }
-    ensures { take (at + 32) (map T.number out.new) ≡ listed (at + 32) (output T.kind h.now (map T.number x.now) shift) }
+    ensures { take (at + 32) (map T.number out.new) ≡ listed (at + 32)
+        (output T.kind h.now (map T.number x.now) shift) }
 {
     for half in 0..2 {
         let from = at + 16 * half;

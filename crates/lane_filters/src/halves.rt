@@ -103,7 +103,8 @@ pub(crate) fn write_halves(
     write_sixteen(h, halves, x, at + 16, shift, next_highs, next_lows, out);
 }
 
-/// Writes sixteen outputs, whose sums of the pairs of halves are given: at every other one from `at` on, and at those between.
+/// Writes sixteen outputs, whose sums of the pairs of halves are given: at every other one from `at` on, and at those
+/// between.
 #[inline(always)]
 fn write_sixteen(
     h: &[i16],
@@ -123,9 +124,11 @@ fn write_sixteen(
     requires place { at + 16 ≤ length out.old }
     requires items_in_range { AreItems Short x.now }
     requires high_even { high.0 ≡ spread_sums (take (length h.now) halves.now.high) x.now (2 * (length h.now / 2)) at }
-    requires high_odd { high.1 ≡ spread_sums (take (length h.now) halves.now.high) x.now (2 * (length h.now / 2)) (at + 1) }
+    requires high_odd { high.1 ≡ spread_sums (take (length h.now) halves.now.high) x.now (2 * (length h.now / 2))
+        (at + 1) }
     requires low_even { low.0 ≡ spread_sums (take (length h.now) halves.now.low) x.now (2 * (length h.now / 2)) at }
-    requires low_odd { low.1 ≡ spread_sums (take (length h.now) halves.now.low) x.now (2 * (length h.now / 2)) (at + 1) }
+    requires low_odd { low.1 ≡ spread_sums (take (length h.now) halves.now.low) x.now (2 * (length h.now / 2))
+        (at + 1) }
     requires done { take at out.old ≡ listed at (output Short h.now x.now shift) }
     ensures { take (at + 16) out.new ≡ listed (at + 16) (output Short h.now x.now shift) }
 {

@@ -9,8 +9,8 @@ use kind_model::BitOrder;
 use numbers::Number;
 use numbers::vectors::append_copies;
 
-/// Appends to an empty `out` with room for them so many items, each of the next `l` bits in the order `write` of the stream that the `k` lowest bits
-/// of each item make in the order `read`.
+/// Appends to an empty `out` with room for them so many items, each of the next `l` bits in the order `write` of the
+/// stream that the `k` lowest bits of each item make in the order `read`.
 pub fn append_repacked<T: Number>(
     k: u32,
     l: u32,

@@ -29,7 +29,8 @@ max_assoc a b c = grind (arith, nat_tests)
 
 or_assoc : (a b c : ℕ) → bit_or (bit_or a b) c ≡ bit_or a (bit_or b c)
 or_assoc a b c = same_from_bits _ _ (λ i.
-    bit_at_or (bit_or a b) c i ∙ ap (λ x. max x (bit_at c i)) (bit_at_or a b i) ∙ max_assoc (bit_at a i) (bit_at b i) (bit_at c i)
+    bit_at_or (bit_or a b) c i ∙ ap (λ x. max x (bit_at c i)) (bit_at_or a b i) ∙ max_assoc (bit_at a i) (bit_at b i)
+    (bit_at c i)
     ∙ sym (bit_at_or a (bit_or b c) i ∙ ap (max (bit_at a i)) (bit_at_or b c i)))
 
 pub and_is_bitwise : IsBitwise bit_and all_set
@@ -46,7 +47,19 @@ and_is_bitwise =
     ones_less k = omega (arith, pow_pos k)
 
 pub or_is_bitwise : IsBitwise bit_or none_set
-or_is_bitwise = record { assoc = or_assoc; comm = or_comm; keeps = or_lt; none_less = λ t. pow_pos (bits_of t); unit = λ t b less. or_zero_l b }
+or_is_bitwise = record {
+  assoc = or_assoc;
+  comm = or_comm;
+  keeps = or_lt;
+  none_less = λ t. pow_pos (bits_of t);
+  unit = λ t b less. or_zero_l b;
+}
 
 pub xor_is_bitwise : IsBitwise bit_xor none_set
-xor_is_bitwise = record { assoc = xor_assoc; comm = xor_comm; keeps = xor_lt; none_less = λ t. pow_pos (bits_of t); unit = λ t b less. xor_zero_l b }
+xor_is_bitwise = record {
+  assoc = xor_assoc;
+  comm = xor_comm;
+  keeps = xor_lt;
+  none_less = λ t. pow_pos (bits_of t);
+  unit = λ t b less. xor_zero_l b;
+}

@@ -1,4 +1,5 @@
-//! From an operation on one block of items to slices of every length, where what is made is appended: turn by turn, and at the end one that overlaps.
+//! From an operation on one block of items to slices of every length, where what is made is appended: turn by turn, and
+//! at the end one that overlaps.
 ghost use Rattle.std.specs.Prelude.{◌≡◌, ◌+◌, ◌<◌, ◌≤◌, ◌-◌, ◌++◌, length, map, take, drop, vec_len, vec_capacity};
 ghost use Rattle.std.specs.Simd.Lanes.{zip2};
 ghost use Rattle.lane_kernels.specs.declared.turns.TheConstants.{TURN};
@@ -9,8 +10,8 @@ use crate::turns::{TURN, push_turn};
 use numbers::vectors::append;
 use std::mem;
 
-/// Appends the operation at each item, where the capacity has room. The loop appends to a vector of its own, whose length and place in memory stay in
-/// registers then.
+/// Appends the operation at each item, where the capacity has room. The loop appends to a vector of its own, whose
+/// length and place in memory stay in registers then.
 #[inline(always)]
 pub(crate) fn append_map<T: SimdLane, U: SimdLane, M: MapBlock<T, U>>(
     op: &M,
@@ -18,7 +19,8 @@ pub(crate) fn append_map<T: SimdLane, U: SimdLane, M: MapBlock<T, U>>(
     out: &mut Vec<U>,
 )
     requires { vec_len out.old + length a.now ≤ vec_capacity out.old }
-    ensures items { map U.number out.new.items ≡ map U.number out.old.items ++ map (M.means op.now) (map T.number a.now) }
+    ensures items { map U.number out.new.items ≡ map U.number out.old.items
+        ++ map (M.means op.now) (map T.number a.now) }
     ensures len { vec_len out.new ≡ vec_len out.old + length a.now }
     ensures capacity { vec_capacity out.old ≤ vec_capacity out.new }
 {
@@ -32,7 +34,8 @@ pub(crate) fn append_map<T: SimdLane, U: SimdLane, M: MapBlock<T, U>>(
 #[inline(always)]
 fn push_map<T: SimdLane, U: SimdLane, M: MapBlock<T, U>>(op: &M, a: &[T], made: &mut Vec<U>)
     requires { vec_len made.old + length a.now ≤ vec_capacity made.old }
-    ensures items { map U.number made.new.items ≡ map U.number made.old.items ++ map (M.means op.now) (map T.number a.now) }
+    ensures items { map U.number made.new.items ≡ map U.number made.old.items
+        ++ map (M.means op.now) (map T.number a.now) }
     ensures len { vec_len made.new ≡ vec_len made.old + length a.now }
     ensures capacity { vec_capacity made.old ≤ vec_capacity made.new }
 {
@@ -58,8 +61,8 @@ fn map_turn<T: SimdLane, U: SimdLane, M: MapBlock<T, U>>(op: &M, a: &[T]) -> [U;
     made
 }
 
-/// Appends the operation at each of the last `rest` items, from a turn which may begin with some before them. Not inlined, so that the code of whole
-/// turns stays short.
+/// Appends the operation at each of the last `rest` items, from a turn which may begin with some before them. Not
+/// inlined, so that the code of whole turns stays short.
 #[inline(never)]
 fn push_map_last<T: SimdLane, U: SimdLane, M: MapBlock<T, U>>(
     op: &M,
@@ -70,7 +73,8 @@ fn push_map_last<T: SimdLane, U: SimdLane, M: MapBlock<T, U>>(
     requires some { rest ≤ length a.now }
     requires few { rest < TURN }
     requires room { vec_len made.old + rest ≤ vec_capacity made.old }
-    ensures items { map U.number made.new.items ≡ map U.number made.old.items ++ map (M.means op.now) (map T.number (drop (length a.now - rest) a.now)) }
+    ensures items { map U.number made.new.items ≡ map U.number made.old.items
+        ++ map (M.means op.now) (map T.number (drop (length a.now - rest) a.now)) }
     ensures len { vec_len made.new ≡ vec_len made.old + rest }
     ensures capacity { vec_capacity made.old ≤ vec_capacity made.new }
 {
@@ -96,7 +100,8 @@ fn map_part<T: SimdLane, U: SimdLane, M: MapBlock<T, U>>(op: &M, a: &[T]) -> [U;
 pub(crate) fn append_zip<T: SimdLane, Z: ZipBlock<T>>(a: &[T], b: &[T], out: &mut Vec<T>)
     requires b_length { length b.now ≡ length a.now }
     requires room { vec_len out.old + length a.now ≤ vec_capacity out.old }
-    ensures items { map T.number out.new.items ≡ map T.number out.old.items ++ zip2 Z.means (map T.number a.now) (map T.number b.now) }
+    ensures items { map T.number out.new.items ≡ map T.number out.old.items
+        ++ zip2 Z.means (map T.number a.now) (map T.number b.now) }
     ensures len { vec_len out.new ≡ vec_len out.old + length a.now }
     ensures capacity { vec_capacity out.old ≤ vec_capacity out.new }
 {
@@ -111,7 +116,8 @@ pub(crate) fn append_zip<T: SimdLane, Z: ZipBlock<T>>(a: &[T], b: &[T], out: &mu
 fn push_zip<T: SimdLane, Z: ZipBlock<T>>(a: &[T], b: &[T], made: &mut Vec<T>)
     requires b_length { length b.now ≡ length a.now }
     requires room { vec_len made.old + length a.now ≤ vec_capacity made.old }
-    ensures items { map T.number made.new.items ≡ map T.number made.old.items ++ zip2 Z.means (map T.number a.now) (map T.number b.now) }
+    ensures items { map T.number made.new.items ≡ map T.number made.old.items
+        ++ zip2 Z.means (map T.number a.now) (map T.number b.now) }
     ensures len { vec_len made.new ≡ vec_len made.old + length a.now }
     ensures capacity { vec_capacity made.old ≤ vec_capacity made.new }
 {
@@ -138,8 +144,8 @@ pub(crate) fn zip_turn<T: SimdLane, Z: ZipBlock<T>>(a: &[T], b: &[T]) -> [T; TUR
     made
 }
 
-/// Appends the operation at each of the last `rest` two items, from a turn which may begin with some before them. Not inlined, so that the code of
-/// whole turns stays short.
+/// Appends the operation at each of the last `rest` two items, from a turn which may begin with some before them. Not
+/// inlined, so that the code of whole turns stays short.
 #[inline(never)]
 fn push_zip_last<T: SimdLane, Z: ZipBlock<T>>(a: &[T], b: &[T], rest: usize, made: &mut Vec<T>)
     requires b_length { length b.now ≡ length a.now }
@@ -147,7 +153,8 @@ fn push_zip_last<T: SimdLane, Z: ZipBlock<T>>(a: &[T], b: &[T], rest: usize, mad
     requires few { rest < TURN }
     requires room { vec_len made.old + rest ≤ vec_capacity made.old }
     ensures items { map T.number made.new.items
-        ≡ map T.number made.old.items ++ drop (length a.now - rest) (zip2 Z.means (map T.number a.now) (map T.number b.now)) }
+        ≡ map T.number made.old.items ++ drop (length a.now - rest) (zip2 Z.means (map T.number a.now)
+        (map T.number b.now)) }
     ensures len { vec_len made.new ≡ vec_len made.old + rest }
     ensures capacity { vec_capacity made.old ≤ vec_capacity made.new }
 {

@@ -163,7 +163,8 @@ pub fn scale_sat<T: SimdLane>(a: &[T], factor: i16, shift: u32, out: &mut [T])
 pub fn append_add_wrap<T: SimdLane>(a: &[T], b: &[T], out: &mut Vec<T>)
     requires same_length { length a.now ≡ length b.now }
     requires room { vec_len out.old + length a.now ≤ vec_capacity out.old }
-    ensures items { map T.number out.new.items ≡ map T.number out.old.items ++ Kernels.add_wrap T.kind (map T.number a.now) (map T.number b.now) }
+    ensures items { map T.number out.new.items ≡ map T.number out.old.items
+        ++ Kernels.add_wrap T.kind (map T.number a.now) (map T.number b.now) }
     ensures len { vec_len out.new ≡ vec_len out.old + length a.now }
     ensures capacity { vec_capacity out.old ≤ vec_capacity out.new }
 {
@@ -174,7 +175,8 @@ pub fn append_add_wrap<T: SimdLane>(a: &[T], b: &[T], out: &mut Vec<T>)
 #[inline(always)]
 pub fn append_add_const_wrap<T: SimdLane>(a: &[T], c: T, out: &mut Vec<T>)
     requires room { vec_len out.old + length a.now ≤ vec_capacity out.old }
-    ensures items { map T.number out.new.items ≡ map T.number out.old.items ++ Kernels.add_const_wrap T.kind (map T.number a.now) (T.number c) }
+    ensures items { map T.number out.new.items ≡ map T.number out.old.items
+        ++ Kernels.add_const_wrap T.kind (map T.number a.now) (T.number c) }
     ensures len { vec_len out.new ≡ vec_len out.old + length a.now }
     ensures capacity { vec_capacity out.old ≤ vec_capacity out.new }
 {
@@ -185,7 +187,8 @@ pub fn append_add_const_wrap<T: SimdLane>(a: &[T], c: T, out: &mut Vec<T>)
 #[inline(always)]
 pub fn append_mul_wrap<T: SimdLane>(a: &[T], c: T, out: &mut Vec<T>)
     requires room { vec_len out.old + length a.now ≤ vec_capacity out.old }
-    ensures items { map T.number out.new.items ≡ map T.number out.old.items ++ Kernels.mul_wrap T.kind (map T.number a.now) (T.number c) }
+    ensures items { map T.number out.new.items ≡ map T.number out.old.items
+        ++ Kernels.mul_wrap T.kind (map T.number a.now) (T.number c) }
     ensures len { vec_len out.new ≡ vec_len out.old + length a.now }
     ensures capacity { vec_capacity out.old ≤ vec_capacity out.new }
 {
@@ -197,7 +200,8 @@ pub fn append_mul_wrap<T: SimdLane>(a: &[T], c: T, out: &mut Vec<T>)
 pub fn append_scale_sat<T: SimdLane>(a: &[T], factor: i16, shift: u32, out: &mut Vec<T>)
     requires in_range { shift ≤ 31 }
     requires room { vec_len out.old + length a.now ≤ vec_capacity out.old }
-    ensures items { map T.number out.new.items ≡ map T.number out.old.items ++ Kernels.scale_sat T.kind (map T.number a.now) factor shift }
+    ensures items { map T.number out.new.items ≡ map T.number out.old.items
+        ++ Kernels.scale_sat T.kind (map T.number a.now) factor shift }
     ensures len { vec_len out.new ≡ vec_len out.old + length a.now }
     ensures capacity { vec_capacity out.old ≤ vec_capacity out.new }
 {
@@ -219,7 +223,8 @@ pub fn multiply_wrap_into<T: SimdLane>(items: &[T], out: &mut [T])
 pub fn append_multiply_wrap<T: SimdLane>(a: &[T], b: &[T], out: &mut Vec<T>)
     requires same_length { length a.now ≡ length b.now }
     requires room { vec_len out.old + length a.now ≤ vec_capacity out.old }
-    ensures items { map T.number out.new.items ≡ map T.number out.old.items ++ Kernels.multiply_wrap T.kind (map T.number a.now) (map T.number b.now) }
+    ensures items { map T.number out.new.items ≡ map T.number out.old.items
+        ++ Kernels.multiply_wrap T.kind (map T.number a.now) (map T.number b.now) }
     ensures len { vec_len out.new ≡ vec_len out.old + length a.now }
     ensures capacity { vec_capacity out.old ≤ vec_capacity out.new }
 {
@@ -241,7 +246,8 @@ pub fn sub_wrap_into<T: SimdLane>(items: &[T], out: &mut [T])
 pub fn append_sub_wrap<T: SimdLane>(a: &[T], b: &[T], out: &mut Vec<T>)
     requires same_length { length a.now ≡ length b.now }
     requires room { vec_len out.old + length a.now ≤ vec_capacity out.old }
-    ensures items { map T.number out.new.items ≡ map T.number out.old.items ++ Kernels.sub_wrap T.kind (map T.number a.now) (map T.number b.now) }
+    ensures items { map T.number out.new.items ≡ map T.number out.old.items
+        ++ Kernels.sub_wrap T.kind (map T.number a.now) (map T.number b.now) }
     ensures len { vec_len out.new ≡ vec_len out.old + length a.now }
     ensures capacity { vec_capacity out.old ≤ vec_capacity out.new }
 {

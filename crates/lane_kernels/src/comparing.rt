@@ -79,7 +79,8 @@ pub fn minimum_into<T: SimdLane>(items: &[T], out: &mut [T])
 pub fn append_minimum<T: SimdLane>(a: &[T], b: &[T], out: &mut Vec<T>)
     requires same_length { length a.now ≡ length b.now }
     requires room { vec_len out.old + length a.now ≤ vec_capacity out.old }
-    ensures items { map T.number out.new.items ≡ map T.number out.old.items ++ Kernels.minimum (map T.number a.now) (map T.number b.now) }
+    ensures items { map T.number out.new.items ≡ map T.number out.old.items
+        ++ Kernels.minimum (map T.number a.now) (map T.number b.now) }
     ensures len { vec_len out.new ≡ vec_len out.old + length a.now }
     ensures capacity { vec_capacity out.old ≤ vec_capacity out.new }
 {
@@ -101,7 +102,8 @@ pub fn maximum_into<T: SimdLane>(items: &[T], out: &mut [T])
 pub fn append_maximum<T: SimdLane>(a: &[T], b: &[T], out: &mut Vec<T>)
     requires same_length { length a.now ≡ length b.now }
     requires room { vec_len out.old + length a.now ≤ vec_capacity out.old }
-    ensures items { map T.number out.new.items ≡ map T.number out.old.items ++ Kernels.maximum (map T.number a.now) (map T.number b.now) }
+    ensures items { map T.number out.new.items ≡ map T.number out.old.items
+        ++ Kernels.maximum (map T.number a.now) (map T.number b.now) }
     ensures len { vec_len out.new ≡ vec_len out.old + length a.now }
     ensures capacity { vec_capacity out.old ≤ vec_capacity out.new }
 {
@@ -112,7 +114,8 @@ pub fn append_maximum<T: SimdLane>(a: &[T], b: &[T], out: &mut Vec<T>)
 #[inline(always)]
 pub fn append_abs_wrap<T: SimdLane>(a: &[T], out: &mut Vec<T>)
     requires room { vec_len out.old + length a.now ≤ vec_capacity out.old }
-    ensures items { map T.number out.new.items ≡ map T.number out.old.items ++ Kernels.abs_wrap T.kind (map T.number a.now) }
+    ensures items { map T.number out.new.items ≡ map T.number out.old.items
+        ++ Kernels.abs_wrap T.kind (map T.number a.now) }
     ensures len { vec_len out.new ≡ vec_len out.old + length a.now }
     ensures capacity { vec_capacity out.old ≤ vec_capacity out.new }
 {
@@ -123,7 +126,8 @@ pub fn append_abs_wrap<T: SimdLane>(a: &[T], out: &mut Vec<T>)
 #[inline(always)]
 pub fn append_clip<T: SimdLane>(a: &[T], low: T, high: T, out: &mut Vec<T>)
     requires room { vec_len out.old + length a.now ≤ vec_capacity out.old }
-    ensures items { map T.number out.new.items ≡ map T.number out.old.items ++ Kernels.clip (map T.number a.now) (T.number low) (T.number high) }
+    ensures items { map T.number out.new.items ≡ map T.number out.old.items
+        ++ Kernels.clip (map T.number a.now) (T.number low) (T.number high) }
     ensures len { vec_len out.new ≡ vec_len out.old + length a.now }
     ensures capacity { vec_capacity out.old ≤ vec_capacity out.new }
 {

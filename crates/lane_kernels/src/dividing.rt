@@ -33,23 +33,27 @@ pub fn divide_into<T: SimdLane>(items: &[T], out: &mut [T])
     zip_into::<T, EachTwo<Quotient>>(items, out);
 }
 
-/// Appends the items of `a` over those of `b`, rounded toward 0 and wrapped, and 0 for each over 0, where the capacity has room.
+/// Appends the items of `a` over those of `b`, rounded toward 0 and wrapped, and 0 for each over 0, where the capacity
+/// has room.
 #[inline(always)]
 pub fn append_divide<T: SimdLane>(a: &[T], b: &[T], out: &mut Vec<T>)
     requires same_length { length a.now ≡ length b.now }
     requires room { vec_len out.old + length a.now ≤ vec_capacity out.old }
-    ensures items { map T.number out.new.items ≡ map T.number out.old.items ++ Kernels.divide T.kind (map T.number a.now) (map T.number b.now) }
+    ensures items { map T.number out.new.items ≡ map T.number out.old.items
+        ++ Kernels.divide T.kind (map T.number a.now) (map T.number b.now) }
     ensures len { vec_len out.new ≡ vec_len out.old + length a.now }
     ensures capacity { vec_capacity out.old ≤ vec_capacity out.new }
 {
     append_zip::<T, EachTwo<Quotient>>(a, b, out);
 }
 
-/// Appends each item over `c`, rounded toward 0 and wrapped, and 0 for each where `c` is 0, where the capacity has room.
+/// Appends each item over `c`, rounded toward 0 and wrapped, and 0 for each where `c` is 0, where the capacity has
+/// room.
 #[inline(always)]
 pub fn append_divide_const<T: SimdLane>(a: &[T], c: T, out: &mut Vec<T>)
     requires room { vec_len out.old + length a.now ≤ vec_capacity out.old }
-    ensures items { map T.number out.new.items ≡ map T.number out.old.items ++ Kernels.divide_const T.kind (map T.number a.now) (T.number c) }
+    ensures items { map T.number out.new.items ≡ map T.number out.old.items
+        ++ Kernels.divide_const T.kind (map T.number a.now) (T.number c) }
     ensures len { vec_len out.new ≡ vec_len out.old + length a.now }
     ensures capacity { vec_capacity out.old ≤ vec_capacity out.new }
 {

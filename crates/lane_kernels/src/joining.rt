@@ -1,5 +1,5 @@
-//! From an operation on one block of items to slices of every length, where what is made of the items of two slices is written over those of one: turn by
-//! turn, and at the end the items that are left.
+//! From an operation on one block of items to slices of every length, where what is made of the items of two slices is
+//! written over those of one: turn by turn, and at the end the items that are left.
 ghost use Rattle.std.specs.Prelude.{◌≡◌, ◌<◌, length, map};
 ghost use Rattle.std.specs.Simd.Lanes.{zip2};
 ghost use Rattle.lane_kernels.specs.declared.turns.TheConstants.{TURN};

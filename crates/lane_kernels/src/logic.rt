@@ -162,7 +162,8 @@ pub fn not<T: SimdLane>(a: &[T], out: &mut [T])
 pub fn append_joined_bits<T: SimdLane, O: BitOperation>(a: &[T], b: &[T], out: &mut Vec<T>)
     requires same_length { length a.now ≡ length b.now }
     requires room { vec_len out.old + length a.now ≤ vec_capacity out.old }
-    ensures items { map T.number out.new.items ≡ map T.number out.old.items ++ joined_bits O.on_bits T.kind (map T.number a.now) (map T.number b.now) }
+    ensures items { map T.number out.new.items ≡ map T.number out.old.items
+        ++ joined_bits O.on_bits T.kind (map T.number a.now) (map T.number b.now) }
     ensures len { vec_len out.new ≡ vec_len out.old + length a.now }
     ensures capacity { vec_capacity out.old ≤ vec_capacity out.new }
 {
@@ -173,7 +174,8 @@ pub fn append_joined_bits<T: SimdLane, O: BitOperation>(a: &[T], b: &[T], out: &
 #[inline(always)]
 pub fn append_joined_bits_const<T: SimdLane, O: BitOperation>(a: &[T], c: T, out: &mut Vec<T>)
     requires room { vec_len out.old + length a.now ≤ vec_capacity out.old }
-    ensures items { map T.number out.new.items ≡ map T.number out.old.items ++ joined_bits_const O.on_bits T.kind (map T.number a.now) (T.number c) }
+    ensures items { map T.number out.new.items ≡ map T.number out.old.items
+        ++ joined_bits_const O.on_bits T.kind (map T.number a.now) (T.number c) }
     ensures len { vec_len out.new ≡ vec_len out.old + length a.now }
     ensures capacity { vec_capacity out.old ≤ vec_capacity out.new }
 {

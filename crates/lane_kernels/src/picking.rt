@@ -8,15 +8,17 @@ use std::simd::prelude::*;
 
 type Block = Simd<u8, 16>;
 
-/// Appends every second or fourth byte, the first of them at place `port`, where the capacity has room. Lanes are stored where zeros were written before,
-/// since each of them would be read alone where they are pushed. A caller that names `step` gets code for it.
+/// Appends every second or fourth byte, the first of them at place `port`, where the capacity has room. Lanes are
+/// stored where zeros were written before, since each of them would be read alone where they are pushed. A caller that
+/// names `step` gets code for it.
 #[inline(always)]
 pub(crate) fn push_lanes(items: &[u8], step: usize, port: usize, made: &mut Vec<u8>)
     requires even { step % 2 ≡ 0 }
     requires most { step ≤ 4 }
     requires port { port < step }
     requires room { vec_len made.old + length items.now / step ≤ vec_capacity made.old }
-    ensures items { map pos made.new.items ≡ map pos made.old.items ++ deinterleaved (length items.now / step) step port (map pos items.now) }
+    ensures items { map pos made.new.items ≡ map pos made.old.items ++ deinterleaved (length items.now / step) step port
+        (map pos items.now) }
     ensures capacity { vec_capacity made.old ≤ vec_capacity made.new }
 {
     let at = made.len();

@@ -98,7 +98,8 @@ pub trait SimdLane: Number {
         requires port { port < 2 }
         requires room { vec_len made.old + length items.now / 2 ≤ vec_capacity made.old }
         ensures items { map Self.number made.new.items
-            ≡ map Self.number made.old.items ++ deinterleaved (length items.now / 2) 2 port (map Self.number items.now) }
+            ≡ map Self.number made.old.items ++ deinterleaved (length items.now / 2) 2 port
+            (map Self.number items.now) }
         ensures capacity { vec_capacity made.old ≤ vec_capacity made.new };
 
     /// Appends every fourth item, the first of them at place `port`, where the capacity has room.
@@ -106,7 +107,8 @@ pub trait SimdLane: Number {
         requires port { port < 4 }
         requires room { vec_len made.old + length items.now / 4 ≤ vec_capacity made.old }
         ensures items { map Self.number made.new.items
-            ≡ map Self.number made.old.items ++ deinterleaved (length items.now / 4) 4 port (map Self.number items.now) }
+            ≡ map Self.number made.old.items ++ deinterleaved (length items.now / 4) 4 port
+            (map Self.number items.now) }
         ensures capacity { vec_capacity made.old ≤ vec_capacity made.new };
 
     /// A block has an item.

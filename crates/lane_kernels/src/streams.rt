@@ -1,4 +1,5 @@
-//! Streams whose items take turns. A loop appends to a vector of its own, whose length and place in memory stay in registers then.
+//! Streams whose items take turns. A loop appends to a vector of its own, whose length and place in memory stay in
+//! registers then.
 ghost use Rattle.std.specs.Prelude.{◌≡◌, ◌≤◌, ◌<◌, ◌+◌, ◌*◌, ◌/◌, ◌∷◌, [], ◌++◌, All, length, map, vec_len, vec_capacity};
 ghost use Rattle.stream_model.specs.Lists.{item};
 ghost use Rattle.lane_kernels.specs.Streams.{interleaved, deinterleaved};
@@ -11,7 +12,8 @@ use std::mem;
 pub fn interleave<T: Number>(streams: &[&[T]], rounds: usize, out: &mut Vec<T>)
     requires same_length { All (λ s. length s.now ≡ rounds) streams.now }
     requires room { vec_len out.old + length streams.now * rounds ≤ vec_capacity out.old }
-    ensures items { map T.number out.new.items ≡ map T.number out.old.items ++ interleaved rounds (map (λ s. map T.number s.now) streams.now) }
+    ensures items { map T.number out.new.items ≡ map T.number out.old.items
+        ++ interleaved rounds (map (λ s. map T.number s.now) streams.now) }
     ensures capacity { vec_capacity out.old ≤ vec_capacity out.new }
 {
     let alloc = *out.allocator();
@@ -25,7 +27,8 @@ pub fn interleave<T: Number>(streams: &[&[T]], rounds: usize, out: &mut Vec<T>)
 fn push_streams<T: Number>(streams: &[&[T]], rounds: usize, made: &mut Vec<T>)
     requires same_length { All (λ s. length s.now ≡ rounds) streams.now }
     requires room { vec_len made.old + length streams.now * rounds ≤ vec_capacity made.old }
-    ensures items { map T.number made.new.items ≡ map T.number made.old.items ++ interleaved rounds (map (λ s. map T.number s.now) streams.now) }
+    ensures items { map T.number made.new.items ≡ map T.number made.old.items
+        ++ interleaved rounds (map (λ s. map T.number s.now) streams.now) }
     ensures capacity { vec_capacity made.new ≡ vec_capacity made.old }
 {
     match streams {
@@ -42,7 +45,8 @@ fn push_streams<T: Number>(streams: &[&[T]], rounds: usize, made: &mut Vec<T>)
 fn push_rounds<T: Number>(streams: &[&[T]], rounds: usize, made: &mut Vec<T>)
     requires same_length { All (λ s. length s.now ≡ rounds) streams.now }
     requires room { vec_len made.old + length streams.now * rounds ≤ vec_capacity made.old }
-    ensures items { map T.number made.new.items ≡ map T.number made.old.items ++ interleaved rounds (map (λ s. map T.number s.now) streams.now) }
+    ensures items { map T.number made.new.items ≡ map T.number made.old.items
+        ++ interleaved rounds (map (λ s. map T.number s.now) streams.now) }
     ensures capacity { vec_capacity made.new ≡ vec_capacity made.old }
 {
     for round in 0..rounds {
@@ -55,7 +59,8 @@ fn push_rounds<T: Number>(streams: &[&[T]], rounds: usize, made: &mut Vec<T>)
 fn push_round<T: Number>(streams: &[&[T]], round: usize, made: &mut Vec<T>)
     requires within { All (λ s. round < length s.now) streams.now }
     requires room { vec_len made.old + length streams.now ≤ vec_capacity made.old }
-    ensures items { map T.number made.new.items ≡ map T.number made.old.items ++ map (λ s. item (map T.number s.now) round) streams.now }
+    ensures items { map T.number made.new.items ≡ map T.number made.old.items
+        ++ map (λ s. item (map T.number s.now) round) streams.now }
     ensures len { vec_len made.new ≡ vec_len made.old + length streams.now }
     ensures capacity { vec_capacity made.new ≡ vec_capacity made.old }
 {
@@ -69,7 +74,8 @@ fn push_round<T: Number>(streams: &[&[T]], round: usize, made: &mut Vec<T>)
 pub fn deinterleave<T: SimdLane>(items: &[T], streams: usize, port: usize, out: &mut Vec<T>)
     requires port { port < streams }
     requires room { vec_len out.old + length items.now / streams ≤ vec_capacity out.old }
-    ensures items { map T.number out.new.items ≡ map T.number out.old.items ++ deinterleaved (length items.now / streams) streams port (map T.number items.now) }
+    ensures items { map T.number out.new.items ≡ map T.number out.old.items
+        ++ deinterleaved (length items.now / streams) streams port (map T.number items.now) }
     ensures capacity { vec_capacity out.old ≤ vec_capacity out.new }
 {
     let alloc = *out.allocator();
@@ -85,7 +91,8 @@ pub fn deinterleave<T: SimdLane>(items: &[T], streams: usize, port: usize, out: 
     *out = made;
 }
 
-/// Appends so many items, each of them `step` places behind the one before, the first at `port`. A caller that names `step` gets code for it.
+/// Appends so many items, each of them `step` places behind the one before, the first at `port`. A caller that names
+/// `step` gets code for it.
 #[inline(always)]
 pub(crate) fn push_each<T: Number>(
     items: &[T],
@@ -97,7 +104,8 @@ pub(crate) fn push_each<T: Number>(
     requires port { port < step }
     requires there { count * step ≤ length items.now }
     requires room { vec_len made.old + count ≤ vec_capacity made.old }
-    ensures items { map T.number made.new.items ≡ map T.number made.old.items ++ deinterleaved count step port (map T.number items.now) }
+    ensures items { map T.number made.new.items ≡ map T.number made.old.items
+        ++ deinterleaved count step port (map T.number items.now) }
     ensures capacity { vec_capacity made.new ≡ vec_capacity made.old }
 {
     for k in 0..count {

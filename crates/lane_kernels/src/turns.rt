@@ -1,5 +1,5 @@
-//! Items that are appended sixteen at a time. All of them are made before the first is stored, so that they stay in registers, and no place in memory
-//! is written twice.
+//! Items that are appended sixteen at a time. All of them are made before the first is stored, so that they stay in
+//! registers, and no place in memory is written twice.
 ghost use Rattle.std.specs.Prelude.{◌≡◌, ◌≤◌, ◌+◌, ◌++◌, vec_len, vec_capacity};
 
 use crate::SimdLane;

@@ -8,7 +8,8 @@ use Rattle.stream_laws.specs.CanRun.{CanRun}
 use Rattle.machine_laws.specs.Runs.{state_after}
 use Rattle.machine_laws.specs.Sound.{reached, Sound}
 
--- the firings of block b that are committed or claimed, one by one, the items that they give, and those that they take on each input
+-- the firings of block b that are committed or claimed, one by one, the items that they give, and those that they take
+-- on each input
 pub record IsSmall (net : Network) (st : State) (b : ℕ) : Type 0 where
   pub firings : (node_at net b).multiple * reached st b < 2 ^ 62
   pub given : given_by (node_at net b) (reached st b) < 2 ^ 62
@@ -22,5 +23,7 @@ CountsAreSmall =
 -- and so they do after any calls, where tapes may come to be as long as fits the graph
 abbrev pub CountsStaySmall : Type 0
 CountsStaySmall =
-    (names : List (List ℕ)) (net : Network) (caps : Capacities) (longest : ℕ) → CanRun net → IsValidGraph names net → IsWithinGain net longest →
-    (calls : List Call) (b : ℕ) → b < length net.nodes → IsSmall net (state_after net caps (opening_within longest net) calls) b
+    (names : List (List ℕ)) (net : Network) (caps : Capacities) (longest : ℕ) → CanRun net → IsValidGraph names net
+    → IsWithinGain net longest →
+    (calls : List Call) (b : ℕ) → b < length net.nodes → IsSmall net
+    (state_after net caps (opening_within longest net) calls) b

@@ -13,7 +13,8 @@ use Rattle.machine_laws.specs.Stalls.{AreClosed}
 abbrev pub state_after : Network → Capacities → State → List Call → State
 state_after net caps st calls = (run_of net caps st calls).1
 
--- what is committed when some calls begin is there when they end: no firing is lost, and what they took and gave is as it was
+-- what is committed when some calls begin is there when they end: no firing is lost, and what they took and gave is as
+-- it was
 pub record RunStays (net : Network) (caps : Capacities) (st : State) (calls : List Call) (b : ℕ) : Type 0 where
   pub rises : fired st b ≤ fired (state_after net caps st calls) b
   pub firings : IsUndisturbed net (fired st) st.handed (state_after net caps st calls).handed b
@@ -27,7 +28,8 @@ pub record IsRight (net : Network) (caps : Capacities) (st : State) : Type 0 whe
   -- where all blocks are done, the sinks hold their whole streams
   pub whole : is_all_done st ≡ true → IsWhole net st
   -- and they are done where capacities are enough for a balance, all tapes are closed and no block can act
-  pub rests : (q : List ℕ) → HasCapacities net q caps → AreClosed net st → is_quiet net caps st ≡ true → is_all_done st ≡ true
+  pub rests : (q : List ℕ) → HasCapacities net q caps → AreClosed net st → is_quiet net caps st ≡ true → is_all_done st
+      ≡ true
 
 -- the headline: after any calls, however long tapes may come to be
 abbrev pub RunsAreRight : Type 0

@@ -29,16 +29,19 @@ pub record IsUnread (net : Network) (st : State) (b : ℕ) : Type 0 where
   pub outputs : 0 < used_outputs net b
   pub done : All (λ c. c.from ≡ b → (progress_at st.progress c.to).done ≡ true) net.connections
 
--- k firings of block b in all fit: their items are written, each live reader has room for them, and the limit allows them
+-- k firings of block b in all fit: their items are written, each live reader has room for them, and the limit allows
+-- them
 pub record Fits (net : Network) (caps : Capacities) (st : State) (b k : ℕ) : Type 0 where
   pub tape : is_source (role_at net b) ≡ true → k ≤ length (handed_at st.handed b).tape
-  pub items : All (λ c. c.to ≡ b → taken_by (node_at net b) c.in_port k ≤ given_by (node_at net c.from) (fired st c.from)) net.connections
+  pub items : All (λ c. c.to ≡ b → taken_by (node_at net b) c.in_port k ≤ given_by (node_at net c.from)
+      (fired st c.from)) net.connections
   pub room : All (λ c. c.from ≡ b → (progress_at st.progress c.to).done ≡ false →
-      given_by (node_at net b) k ≤ taken_by (node_at net c.to) c.in_port (fired st c.to) + capacity_at caps b c.out_port) net.connections
+      given_by (node_at net b) k ≤ taken_by (node_at net c.to) c.in_port (fired st c.to) + capacity_at caps b
+      c.out_port) net.connections
   pub limit : within_limit (node_at net b).meaning.limit k ≡ true
 
--- what a block may have been handed: a tape where it is a source, not too long, with tags on its items, and settings that it can have, by their
--- items, none where it has no setting
+-- what a block may have been handed: a tape where it is a source, not too long, with tags on its items, and settings
+-- that it can have, by their items, none where it has no setting
 pub record IsHandedWell (n : Node) (h : Handed) : Type 0 where
   pub tape : is_source n.meaning.role ≡ false → length h.tape ≡ 0
   pub short : length h.tape ≤ h.longest
@@ -55,7 +58,8 @@ pub record Sound (net : Network) (caps : Capacities) (st : State) : Type 0 where
   -- a done block has nothing in flight
   pub rests : (b : ℕ) → (progress_at st.progress b).done ≡ true → (progress_at st.progress b).claimed ≡ 0
   -- and has fired as often as it ever can, unless nobody reads what it gives
-  pub complete : (b : ℕ) → b < length net.nodes → (progress_at st.progress b).done ≡ true → AreAll net st.handed b (fired st b) ⊎ IsUnread net st b
+  pub complete : (b : ℕ) → b < length net.nodes → (progress_at st.progress b).done ≡ true
+      → AreAll net st.handed b (fired st b) ⊎ IsUnread net st b
   pub handed : (b : ℕ) → b < length net.nodes → IsHandedWell (node_at net b) (handed_at st.handed b)
 
 -- the state before the first firing, where the blocks were handed this
@@ -70,7 +74,8 @@ BegunIsSound =
 
 -- and so with nothing, however long tapes may come to be
 abbrev pub OpeningIsSound : Type 0
-OpeningIsSound = (net : Network) (caps : Capacities) (longest : ℕ) → CanRun net → Sound net caps (opening_within longest net)
+OpeningIsSound = (net : Network) (caps : Capacities) (longest : ℕ) → CanRun net
+    → Sound net caps (opening_within longest net)
 
 -- and every call keeps it so, whatever its arguments
 abbrev pub CallsKeepSound : Type 0

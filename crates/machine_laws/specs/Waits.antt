@@ -1,4 +1,5 @@
--- What a block waits for, and of which block. A closed network that rests before its end has a ring of blocks, each waiting for the next.
+-- What a block waits for, and of which block. A closed network that rests before its end has a ring of blocks, each
+-- waiting for the next.
 use Rattle.std.specs.Prelude.{ℕ, zero, suc, ◌<◌, ◌≤◌, ◌≡◌, List, [], ◌∷◌, length, Option, Some, None, Bool, true, false, nat_lt, not, position, if◌then◌else◌}
 use Rattle.std.specs.Option.{option_map}
 use Rattle.stream_model.specs.Network.{Connection, Network, State, Progress, node_at, progress_at, role_at, is_source, writer_of, readers_of, taken_by}
@@ -27,7 +28,8 @@ pub data Wait : Type 0 where
 abbrev pub taken_at : Network → State → Connection → ℕ
 taken_at net st c = taken_by (node_at net c.to) c.in_port (fired st c.to)
 
--- the slower of the slowest reader so far and one more, which counts unless it is done; of two that took as much, the first
+-- the slower of the slowest reader so far and one more, which counts unless it is done; of two that took as much, the
+-- first
 abbrev pub slower_of : Network → State → Connection → Option Connection → Connection
 slower_of net st c None = c
 slower_of net st c (Some best) = if nat_lt (taken_at net st c) (taken_at net st best) then c else best
@@ -109,8 +111,11 @@ pub record IsOnRing (net : Network) (caps : Capacities) (st : State) (b : ℕ) :
   pub back : followed net caps st count b ≡ b
   pub waits : (k : ℕ) → is_for_block (wait_of net caps st (followed net caps st k b)) ≡ true
 
--- with all tapes closed, a network that rests before its end has a ring, and from whichever live block the waits lead to it
+-- with all tapes closed, a network that rests before its end has a ring, and from whichever live block the waits lead
+-- to it
 abbrev pub WaitsComeBack : Type 0
 WaitsComeBack =
-    (net : Network) (caps : Capacities) (st : State) → CanRun net → Sound net caps st → AreClosed net st → is_quiet net caps st ≡ true →
-    (b : ℕ) → b < length net.nodes → (progress_at st.progress b).done ≡ false → IsOnRing net caps st (followed net caps st (length net.nodes) b)
+    (net : Network) (caps : Capacities) (st : State) → CanRun net → Sound net caps st → AreClosed net st
+    → is_quiet net caps st ≡ true →
+    (b : ℕ) → b < length net.nodes → (progress_at st.progress b).done ≡ false
+    → IsOnRing net caps st (followed net caps st (length net.nodes) b)

@@ -9,7 +9,8 @@ use Rattle.machine_laws.specs.Sound.{Sound}
 -- where all blocks are done, each sink holds all items and all tags of its stream
 abbrev pub AllDoneIsWhole : Type 0
 AllDoneIsWhole =
-    (net : Network) (caps : Capacities) (st : State) → CanRun net → Sound net caps st → is_all_done st ≡ true → IsWhole net st
+    (net : Network) (caps : Capacities) (st : State) → CanRun net → Sound net caps st → is_all_done st ≡ true
+    → IsWhole net st
 
 -- a piece that says done comes from a sink that holds all items and all tags of its stream
 abbrev pub DonePieceIsWhole : Type 0

@@ -29,8 +29,8 @@ pub fn limits_stay()
     ensures { LimitsStay }
 {}
 
-/// What the firings that are committed or claimed took and gave stays, whatever is called, and a claim in flight is the same job until
-/// it is given back.
+/// What the firings that are committed or claimed took and gave stays, whatever is called, and a claim in flight is the
+/// same job until it is given back.
 pub fn what_is_shown_stays()
     ensures { WhatIsShownStays }
 {}
@@ -50,7 +50,8 @@ pub fn commits_add_their_tags()
     ensures { CommitsAddTheirTags }
 {}
 
-/// In a valid graph every count of a sound state is below 2 ^ 62, where no path makes more than 2 ^ 61 items of what a tape may come to hold.
+/// In a valid graph every count of a sound state is below 2 ^ 62, where no path makes more than 2 ^ 61 items of what a
+/// tape may come to hold.
 pub fn counts_are_small()
     ensures { CountsAreSmall }
 {}
@@ -105,8 +106,8 @@ pub fn stuck_is_quiet()
     ensures { StuckIsQuiet }
 {}
 
-/// After any calls, of any blocks in any order and amounts: what sinks hold is a beginning of their streams and stays, and in a balanced
-/// network with closed tapes they hold all once no block can act.
+/// After any calls, of any blocks in any order and amounts: what sinks hold is a beginning of their streams and stays,
+/// and in a balanced network with closed tapes they hold all once no block can act.
 pub fn runs_are_right()
     ensures { RunsAreRight }
 {}

@@ -34,11 +34,12 @@ pub record IsFed (d : Draft) (order : ByteOrder) (n : ℕ) (i : Input) (st st' :
   pub fed : IsFedBy d.net st st' source.0 order (Some i.bytes.now) rest
 
 -- or it was not: it names no source, or its bytes are refused
-pub record IsRefusedBytes (d : Draft) (order : ByteOrder) (n : ℕ) (i : Input) (st : State) (fault : RawFault) : Type 0 where
-  pub source : BlockId
-  pub named : source_of d n i ≡ Ok source
-  pub rest : Option (List ℕ)
-  pub stops : StopsFeeding d.net st source.0 order n (Some i.bytes.now) rest fault
+pub record IsRefusedBytes (d : Draft) (order : ByteOrder) (n : ℕ) (i : Input) (st : State) (fault : RawFault) : Type 0
+  where
+    pub source : BlockId
+    pub named : source_of d n i ≡ Ok source
+    pub rest : Option (List ℕ)
+    pub stops : StopsFeeding d.net st source.0 order n (Some i.bytes.now) rest fault
 
 abbrev pub IsMisfed : Draft → ByteOrder → ℕ → Input → State → RawFault → Type 0
 IsMisfed d order n i st fault = (source_of d n i ≡ Err fault) ⊎ IsRefusedBytes d order n i st fault
@@ -51,7 +52,8 @@ AreFed d order n (i ∷ is) st st' = (mid : State) × IsFed d order n i st mid �
 -- or the first of them that is not stops
 abbrev pub AreMisfed : Draft → ByteOrder → ℕ → List Input → State → RawFault → Type 0
 AreMisfed d order n [] st fault = ⊥
-AreMisfed d order n (i ∷ is) st fault = IsMisfed d order n i st fault ⊎ ((mid : State) × IsFed d order n i st mid × AreMisfed d order (suc n) is mid fault)
+AreMisfed d order n (i ∷ is) st fault = IsMisfed d order n i st fault
+    ⊎ ((mid : State) × IsFed d order n i st mid × AreMisfed d order (suc n) is mid fault)
 
 -- one of the outputs from output n on names no sink
 abbrev pub IsMisnamed : Draft → ℕ → List Output → RawFault → Type 0
@@ -73,10 +75,12 @@ abbrev pub AreHeld : Draft → State → ByteOrder → ℕ → List Output → L
 AreHeld d st order n [] lens bytes = (lens ≡ []) × (bytes ≡ [])
 AreHeld d st order n (o ∷ os) lens bytes =
     (sink : BlockId) × (sink_of d n o ≡ Ok sink) × (lens' : List ℕ) × (bytes' : List ℕ)
-    × (lens ≡ length (output_bytes d st order o sink) ∷ lens') × (bytes ≡ output_bytes d st order o sink ++ bytes') × AreHeld d st order (suc n) os lens' bytes'
+    × (lens ≡ length (output_bytes d st order o sink) ∷ lens') × (bytes ≡ output_bytes d st order o sink ++ bytes')
+    × AreHeld d st order (suc n) os lens' bytes'
 
 -- the plant of a file was fed, all sources were closed, it came to rest block by block, and this is what its sinks hold
-pub record RunsBetween (file : List ℕ) (order : ByteOrder) (inputs : List Input) (outputs : List Output) (lens bytes : List ℕ) (status : ℕ) : Type 0 where
+pub record RunsBetween (file : List ℕ) (order : ByteOrder) (inputs : List Input) (outputs : List Output)
+    (lens bytes : List ℕ) (status : ℕ) : Type 0 where
   pub plant : Opened
   pub opens : plant_in file ≡ Ok plant
   pub fed : State
@@ -87,8 +91,12 @@ pub record RunsBetween (file : List ℕ) (order : ByteOrder) (inputs : List Inpu
   pub well : status ≡ (if is_all_done last.state then 0 else 3)
 
 -- or not: the file, an input or the name of an output is refused, or memory ran out
-pub data FailsBetween (file : List ℕ) (order : ByteOrder) (inputs : List Input) (outputs : List Output) : RawFault → Type 0 where
-  NoPlant : (why : FileFault) → IsRefused (plant_in file) why → FailsBetween file order inputs outputs (Whole (File why))
-  Misfed : (fault : RawFault) → (plant : Opened) → plant_in file ≡ Ok plant → AreMisfed plant.draft order 0 inputs plant.state fault → FailsBetween file order inputs outputs fault
-  Misnamed : (fault : RawFault) → (plant : Opened) → plant_in file ≡ Ok plant → IsMisnamed plant.draft 0 outputs fault → FailsBetween file order inputs outputs fault
+pub data FailsBetween (file : List ℕ) (order : ByteOrder) (inputs : List Input) (outputs : List Output) : RawFault
+    → Type 0 where
+  NoPlant : (why : FileFault) → IsRefused (plant_in file) why → FailsBetween file order inputs outputs
+      (Whole (File why))
+  Misfed : (fault : RawFault) → (plant : Opened) → plant_in file ≡ Ok plant
+      → AreMisfed plant.draft order 0 inputs plant.state fault → FailsBetween file order inputs outputs fault
+  Misnamed : (fault : RawFault) → (plant : Opened) → plant_in file ≡ Ok plant → IsMisnamed plant.draft 0 outputs fault
+      → FailsBetween file order inputs outputs fault
   NoMemory : IsOk (plant_in file) → FailsBetween file order inputs outputs (Whole (Script script.Memory))

@@ -15,11 +15,27 @@ use Rattle.magbelu_c.specs.Replies.{done, refused}
 
 -- nothing may be set, for a reply
 abbrev pub unset : Reply → BlockSetting
-unset r = record { status = r.status; number = r.number; what = 0; least = pos 0; most = pos 0; value = pos 0; count = 0 }
+unset r = record {
+  status = r.status;
+  number = r.number;
+  what = 0;
+  least = pos 0;
+  most = pos 0;
+  value = pos 0;
+  count = 0;
+}
 
 -- a number may be set, which lies between these; the block's own is the third
 abbrev pub number_told : ℤ → ℤ → ℤ → BlockSetting
-number_told least most own = record { status = 0; number = 0; what = 1; least = least; most = most; value = own; count = 0 }
+number_told least most own = record {
+  status = 0;
+  number = 0;
+  what = 1;
+  least = least;
+  most = most;
+  value = own;
+  count = 0;
+}
 
 -- so many taps may be set
 abbrev pub taps_told : ℕ → BlockSetting
@@ -29,11 +45,16 @@ taps_told count = record { status = 0; number = 0; what = 2; least = pos 0; most
 abbrev pub meaning_at : Flowgraph Kind → ℕ → Meaning
 meaning_at g b = (node_at (net_of meaning_of g) b).meaning
 
--- it is told what the machine takes as a setting of the block (`IsWanted`), and the block's own value; or there is no block of this number
+-- it is told what the machine takes as a setting of the block (`IsWanted`), and the block's own value; or there is no
+-- block of this number
 pub data TellsSetting (g : Flowgraph Kind) (b : ℕ) (taps taps' : List ℤ) (r : BlockSetting) : Type 0 where
-  NothingIsSet : b < length g.blocks → (meaning_at g b).setting ≡ None → taps' ≡ taps → r ≡ unset (done 0 0) → TellsSetting g b taps taps' r
-  NumberIsSet : (least most own : ℤ) → b < length g.blocks → (meaning_at g b).setting ≡ Some (wanted.Number least most) → (meaning_at g b).own ≡ Some (Number own) →
+  NothingIsSet : b < length g.blocks → (meaning_at g b).setting ≡ None → taps' ≡ taps → r ≡ unset (done 0 0)
+      → TellsSetting g b taps taps' r
+  NumberIsSet : (least most own : ℤ) → b < length g.blocks → (meaning_at g b).setting ≡ Some (wanted.Number least most)
+      → (meaning_at g b).own ≡ Some (Number own) →
       taps' ≡ taps → r ≡ number_told least most own → TellsSetting g b taps taps' r
-  TapsAreSet : (own : List ℤ) → b < length g.blocks → (meaning_at g b).setting ≡ Some (wanted.Taps (length own)) → (meaning_at g b).own ≡ Some (Taps own) →
+  TapsAreSet : (own : List ℤ) → b < length g.blocks → (meaning_at g b).setting ≡ Some (wanted.Taps (length own))
+      → (meaning_at g b).own ≡ Some (Taps own) →
       taps' ≡ shown own taps → r ≡ taps_told (length own) → TellsSetting g b taps taps' r
-  NoneIsThere : length g.blocks ≤ b → taps' ≡ taps → r ≡ unset (refused machine.no_such_block 0) → TellsSetting g b taps taps' r
+  NoneIsThere : length g.blocks ≤ b → taps' ≡ taps → r ≡ unset (refused machine.no_such_block 0)
+      → TellsSetting g b taps taps' r

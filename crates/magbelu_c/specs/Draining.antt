@@ -32,16 +32,23 @@ pub record IsTakenAway (s s' : StreamingState Kind) (b count : ℕ) (Fit : Type 
   pub left : ¬ Fit → s' ≡ s
 
 -- a sink was drained; or that is refused, or memory ran out, and nothing is written or taken away
-pub data DrainsFrom (s s' : StreamingState Kind) (sink : List ℕ) (max : ℕ) (order : ByteOrder) (bytes bytes' lines lines' : List ℕ) (r : Piece) : Type 0 where
-  Drained : (b start held : ℕ) → (items : List ℤ) → (tags : List Tag) → (is_done : Bool) → Some b ≡ position (bytes_eq sink) s.plant.graph.names →
-      machine.Piece start held items tags is_done ≡ (drain_now s sink max).0 → IsShown (held_type (net_of meaning_of s.plant.graph) b) held items tags order bytes bytes' lines lines' r →
-      IsTakenAway s s' b (length items) (Fits r bytes lines) → DrainsFrom s s' sink max order bytes bytes' lines lines' r
-  DrainedNot : (fault : PlantFault) → AnsweredBy (drain_now s sink max) (refusal_of fault) → s' ≡ s → bytes' ≡ bytes → lines' ≡ lines →
+pub data DrainsFrom (s s' : StreamingState Kind) (sink : List ℕ) (max : ℕ) (order : ByteOrder)
+    (bytes bytes' lines lines' : List ℕ) (r : Piece) : Type 0 where
+  Drained : (b start held : ℕ) → (items : List ℤ) → (tags : List Tag) → (is_done : Bool) → Some b
+      ≡ position (bytes_eq sink) s.plant.graph.names →
+      machine.Piece start held items tags is_done ≡ (drain_now s sink max).0
+      → IsShown (held_type (net_of meaning_of s.plant.graph) b) held items tags order bytes bytes' lines lines' r →
+      IsTakenAway s s' b (length items) (Fits r bytes lines) → DrainsFrom s s' sink max order bytes bytes' lines lines'
+      r
+  DrainedNot : (fault : PlantFault) → AnsweredBy (drain_now s sink max) (refusal_of fault) → s' ≡ s → bytes' ≡ bytes
+      → lines' ≡ lines →
       r ≡ unshown (told_maybe (refusal_of fault)) → DrainsFrom s s' sink max order bytes bytes' lines lines' r
 
 -- and of either: one that keeps what it took is not drained
 abbrev pub DrainsOn : AnyPlant → AnyPlant → List ℕ → ℕ → ByteOrder → List ℕ → List ℕ → List ℕ → List ℕ → Piece → Type 0
-DrainsOn (Streaming s) (Streaming s') sink max order bytes bytes' lines lines' r = DrainsFrom s s' sink max order bytes bytes' lines lines' r
-DrainsOn (Whole p) (Whole p') sink max order bytes bytes' lines lines' r = (p' ≡ p) × (bytes' ≡ bytes) × (lines' ≡ lines) × (r ≡ unshown not_open)
+DrainsOn (Streaming s) (Streaming s') sink max order bytes bytes' lines lines' r = DrainsFrom s s' sink max order bytes
+    bytes' lines lines' r
+DrainsOn (Whole p) (Whole p') sink max order bytes bytes' lines lines' r = (p' ≡ p) × (bytes' ≡ bytes)
+    × (lines' ≡ lines) × (r ≡ unshown not_open)
 DrainsOn (Streaming s) (Whole p') sink max order bytes bytes' lines lines' r = ⊥
 DrainsOn (Whole p) (Streaming s') sink max order bytes bytes' lines lines' r = ⊥

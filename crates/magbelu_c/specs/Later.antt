@@ -33,8 +33,8 @@ pub record OfGraph (file : List ℕ) (Is : Flowgraph Kind → Type 0) : Type 0 w
   pub opens : streamed_in file ≡ Ok (opened_of first)
   pub is : Is first.graph
 
--- of a graph with a plan: a plant that streams of a graph whose blocks go on where those of the first stand after k iterations. Nothing is fed to it, and nothing
--- of it is forgotten
+-- of a graph with a plan: a plant that streams of a graph whose blocks go on where those of the first stand after k
+-- iterations. Nothing is fed to it, and nothing of it is forgotten
 pub record IsLaterStream (g : Flowgraph Kind) (k : ℕ) (s : StreamingState Kind) : Type 0 where
   pub q : List ℕ
   pub plan : Plan
@@ -60,11 +60,16 @@ abbrev pub OpensNot : List ℕ → ℕ → Unopened → Type 0
 OpensNot file k (unopened.File fault) = IsRefused (streamed_in file) fault
 OpensNot file k (unopened.Uncut why) = OfGraph file (λ g. HasNoLater g k why)
 
--- such a plant is held from now on; or the file is refused, with its line; or there is none, without a line; or a plant is held already
+-- such a plant is held from now on; or the file is refused, with its line; or there is none, without a line; or a plant
+-- is held already
 pub data OpensLater (file : List ℕ) (k : ℕ) (old new : Option AnyPlant) (err err' : List ℕ) (a : Answer) : Type 0 where
-  OpenedLater : old ≡ None → (p : AnyPlant) → OfGraph file (λ g. IsLater g k p) → new ≡ Some p → err' ≡ err → a ≡ answered 0 0 → OpensLater file k old new err err' a
-  RefusedLater : old ≡ None → new ≡ None → (fault : FileFault) → OpensNot file k (unopened.File fault) → ToldBadly [] (File fault) [] [] err err' a →
+  OpenedLater : old ≡ None → (p : AnyPlant) → OfGraph file (λ g. IsLater g k p) → new ≡ Some p → err' ≡ err → a
+      ≡ answered 0 0 → OpensLater file k old new err err' a
+  RefusedLater : old ≡ None → new ≡ None → (fault : FileFault) → OpensNot file k (unopened.File fault)
+      → ToldBadly [] (File fault) [] [] err err' a →
       OpensLater file k old new err err' a
-  HasNone : old ≡ None → new ≡ None → (why : Uncut) → OpensNot file k (unopened.Uncut why) → err' ≡ err → a ≡ answered (not_cut why).status (not_cut why).number →
+  HasNone : old ≡ None → new ≡ None → (why : Uncut) → OpensNot file k (unopened.Uncut why) → err' ≡ err → a
+      ≡ answered (not_cut why).status (not_cut why).number →
       OpensLater file k old new err err' a
-  IsOpenAlready : (p : AnyPlant) → old ≡ Some p → new ≡ Some p → err' ≡ err → a ≡ answered 1 56 → OpensLater file k old new err err' a
+  IsOpenAlready : (p : AnyPlant) → old ≡ Some p → new ≡ Some p → err' ≡ err → a ≡ answered 1 56
+      → OpensLater file k old new err err' a

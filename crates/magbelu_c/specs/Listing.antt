@@ -34,7 +34,8 @@ type_number Byte = 0
 type_number Short = 1
 type_number Int = 2
 
--- what is told of block b: what it does with streams, the types of its items, how many of its ports are connected, and how long the names are
+-- what is told of block b: what it does with streams, the types of its items, how many of its ports are connected, and
+-- how long the names are
 abbrev pub listed : Flowgraph Kind → ℕ → Listed
 listed g b =
     let net = net_of meaning_of g in
@@ -53,12 +54,24 @@ listed g b =
 -- nothing is told, for a reply
 abbrev pub unlisted : Reply → Listed
 unlisted r =
-    record { status = r.status; number = r.number; role = 0; input_type = 0; output_type = 0; input_count = 0; output_count = 0; name_len = 0; kind_len = 0 }
+    record {
+      status = r.status;
+      number = r.number;
+      role = 0;
+      input_type = 0;
+      output_type = 0;
+      input_count = 0;
+      output_count = 0;
+      name_len = 0;
+      kind_len = 0;
+    }
 
 -- a block is told of, with its name and that of its kind; or there is none of this number
 pub data Lists (g : Flowgraph Kind) (b : ℕ) (name name' kind kind' : List ℕ) (r : Listed) : Type 0 where
-  IsBlock : b < length g.blocks → name' ≡ shown (name_at g b) name → kind' ≡ shown (kind_at g b) kind → r ≡ listed g b → Lists g b name name' kind kind' r
-  IsNone : length g.blocks ≤ b → name' ≡ name → kind' ≡ kind → r ≡ unlisted (refused machine.no_such_block 0) → Lists g b name name' kind kind' r
+  IsBlock : b < length g.blocks → name' ≡ shown (name_at g b) name → kind' ≡ shown (kind_at g b) kind → r ≡ listed g b
+      → Lists g b name name' kind kind' r
+  IsNone : length g.blocks ≤ b → name' ≡ name → kind' ≡ kind → r ≡ unlisted (refused machine.no_such_block 0)
+      → Lists g b name name' kind kind' r
 
 -- a connection as a row of a table
 abbrev pub link_row : Connection → Link
@@ -66,7 +79,8 @@ link_row c = record { from = c.from.0; to = c.to.0; out_port = c.out_port; in_po
 
 -- the connections are told, and how many they are; or memory ran out, and nothing is written
 pub data Links (g : Flowgraph Kind) (links links' : List Link) (r : Reply) : Type 0 where
-  AreTold : links' ≡ shown (map link_row g.connections) links → r ≡ done 0 (length g.connections) → Links g links links' r
+  AreTold : links' ≡ shown (map link_row g.connections) links → r ≡ done 0 (length g.connections)
+      → Links g links links' r
   AreNotTold : links' ≡ links → r ≡ no_memory → Links g links links' r
 
 -- the format that a number names
@@ -79,5 +93,6 @@ told status number len = record { status = status; number = number; output_len =
 
 -- the graph is drawn; or memory ran out, and nothing is written
 pub data Draws (g : Flowgraph Kind) (format : Format) (out out' : List ℕ) (a : Answer) : Type 0 where
-  Drawn : out' ≡ shown (drawn_text format g) out → a ≡ told 0 0 (length (drawn_text format g)) → Draws g format out out' a
+  Drawn : out' ≡ shown (drawn_text format g) out → a ≡ told 0 0 (length (drawn_text format g))
+      → Draws g format out out' a
   DrawnNot : out' ≡ out → a ≡ told 4 32 0 → Draws g format out out' a

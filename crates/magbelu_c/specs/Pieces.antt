@@ -45,8 +45,10 @@ abbrev pub IsRead : PlantState Kind → List ℕ → ℕ → ℕ → Result plan
 IsRead p sink from max (Ok piece) = IsPiece p sink from max piece
 IsRead p sink from max (Err fault) = AnsweredBy (read_now p sink from max) (refusal_of fault)
 
--- a piece of what a sink holds: the bytes of its items, which are of this type, in a buffer, and a line for each of its tags in another
-pub record IsShown (t : ItemType) (held : ℕ) (items : List ℤ) (tags : List Tag) (order : ByteOrder) (bytes bytes' lines lines' : List ℕ) (r : Piece) : Type 0 where
+-- a piece of what a sink holds: the bytes of its items, which are of this type, in a buffer, and a line for each of its
+-- tags in another
+pub record IsShown (t : ItemType) (held : ℕ) (items : List ℤ) (tags : List Tag) (order : ByteOrder)
+    (bytes bytes' lines lines' : List ℕ) (r : Piece) : Type 0 where
   pub bytes_are : bytes' ≡ shown (all_bytes_of t order items) bytes
   pub lines_are : lines' ≡ shown (flat_map tag_line tags) lines
   pub told : r ≡ record {
@@ -59,19 +61,28 @@ pub record IsShown (t : ItemType) (held : ℕ) (items : List ℤ) (tags : List T
   }
 
 -- a piece was shown; or memory ran out, and nothing is written
-pub data ShowsPiece (piece : plant.Piece) (order : ByteOrder) (bytes bytes' lines lines' : List ℕ) (r : Piece) : Type 0 where
-  Shown : IsShown (type_of piece.items) piece.held (numbers_of piece.items) (map tag_of piece.tags.items) order bytes bytes' lines lines' r → ShowsPiece piece order bytes bytes' lines lines' r
-  ShownNot : bytes' ≡ bytes → lines' ≡ lines → r ≡ unshown no_memory → ShowsPiece piece order bytes bytes' lines lines' r
+pub data ShowsPiece (piece : plant.Piece) (order : ByteOrder) (bytes bytes' lines lines' : List ℕ) (r : Piece) : Type 0
+  where
+    Shown : IsShown (type_of piece.items) piece.held (numbers_of piece.items) (map tag_of piece.tags.items) order bytes
+        bytes' lines lines' r → ShowsPiece piece order bytes bytes' lines lines' r
+    ShownNot : bytes' ≡ bytes → lines' ≡ lines → r ≡ unshown no_memory
+        → ShowsPiece piece order bytes bytes' lines lines' r
 
 -- a sink was read; or that is refused, or memory ran out, and nothing is written
-pub data Reads (p : PlantState Kind) (sink : List ℕ) (from max : ℕ) (order : ByteOrder) (bytes bytes' lines lines' : List ℕ) (r : Piece) : Type 0 where
-  Shows : (b start held : ℕ) → (items : List ℤ) → (tags : List Tag) → (is_done : Bool) → Some b ≡ position (bytes_eq sink) p.graph.names →
-      machine.Piece start held items tags is_done ≡ (read_now p sink from max).0 → IsShown (held_type (net_of meaning_of p.graph) b) held items tags order bytes bytes' lines lines' r →
+pub data Reads (p : PlantState Kind) (sink : List ℕ) (from max : ℕ) (order : ByteOrder)
+    (bytes bytes' lines lines' : List ℕ) (r : Piece) : Type 0 where
+  Shows : (b start held : ℕ) → (items : List ℤ) → (tags : List Tag) → (is_done : Bool) → Some b
+      ≡ position (bytes_eq sink) p.graph.names →
+      machine.Piece start held items tags is_done ≡ (read_now p sink from max).0
+      → IsShown (held_type (net_of meaning_of p.graph) b) held items tags order bytes bytes' lines lines' r →
       Reads p sink from max order bytes bytes' lines lines' r
-  ShowsNot : (fault : PlantFault) → AnsweredBy (read_now p sink from max) (refusal_of fault) → bytes' ≡ bytes → lines' ≡ lines →
+  ShowsNot : (fault : PlantFault) → AnsweredBy (read_now p sink from max) (refusal_of fault) → bytes' ≡ bytes → lines'
+      ≡ lines →
       r ≡ unshown (told_maybe (refusal_of fault)) → Reads p sink from max order bytes bytes' lines lines' r
 
 -- and of either: one that streams holds nothing to be read again
 abbrev pub ReadsOn : AnyPlant → List ℕ → ℕ → ℕ → ByteOrder → List ℕ → List ℕ → List ℕ → List ℕ → Piece → Type 0
-ReadsOn (Whole p) sink from max order bytes bytes' lines lines' r = Reads p sink from max order bytes bytes' lines lines' r
-ReadsOn (Streaming s) sink from max order bytes bytes' lines lines' r = (bytes' ≡ bytes) × (lines' ≡ lines) × (r ≡ unshown not_open)
+ReadsOn (Whole p) sink from max order bytes bytes' lines lines' r = Reads p sink from max order bytes bytes' lines
+    lines' r
+ReadsOn (Streaming s) sink from max order bytes bytes' lines lines' r = (bytes' ≡ bytes) × (lines' ≡ lines)
+    × (r ≡ unshown not_open)

@@ -74,9 +74,11 @@ takes (Some b) does = does b
 abbrev pub wants : PlantState Kind → List ℕ → (Network → ℕ → Bool) → Bool
 wants p name does = takes (position (bytes_eq name) p.graph.names) (does (net_of meaning_of p.graph))
 
--- a call was answered as the machine does now, or memory ran out; it may also run out before, for what the call is given
+-- a call was answered as the machine does now, or memory ran out; it may also run out before, for what the call is
+-- given
 pub data Calls (may_want : Bool) (now : machine.Reply × State) (old new : PlantState Kind) (r : Reply) : Type 0 where
-  Replied : (reply : Option machine.Reply) → Answered now old new reply → r ≡ told_maybe reply → Calls may_want now old new r
+  Replied : (reply : Option machine.Reply) → Answered now old new reply → r ≡ told_maybe reply
+      → Calls may_want now old new r
   Wanting : may_want ≡ true → new ≡ old → r ≡ no_memory → Calls may_want now old new r
 
 -- the number of a refusal of bytes that end within an item
@@ -84,9 +86,11 @@ abbrev pub cut_item : ℕ
 cut_item = 53
 
 -- a source is fed the items of its type that bytes are, with marks; and whether there is one
-abbrev pub fed_as : Result ItemType PlantFault → ByteOrder → List ℕ → List Mark → Network → State → ℕ → machine.Reply × State
+abbrev pub fed_as : Result ItemType PlantFault → ByteOrder → List ℕ → List Mark → Network → State → ℕ → machine.Reply
+    × State
 fed_as (Err e) order bytes ms net st b = (Refused (number_of e), st)
-fed_as (Ok t) order bytes ms net st b = if nat_lt 0 (length (cut_of t bytes)) then (Refused cut_item, st) else feed_of net st b t (items_of t order bytes) ms
+fed_as (Ok t) order bytes ms net st b = if nat_lt 0 (length (cut_of t bytes)) then (Refused cut_item, st) else feed_of
+    net st b t (items_of t order bytes) ms
 
 abbrev pub fed_bytes : ByteOrder → List ℕ → List Mark → Network → State → ℕ → machine.Reply × State
 fed_bytes order bytes ms net st b = fed_as (source_type_of net b) order bytes ms net st b

@@ -36,7 +36,8 @@ asks_of tags = if tags == 0 then asking.Items else asking.ItemsAndTags
 -- what these firings of an iteration make of a graph
 abbrev pub IsPlannedBy : Flowgraph Kind → Asks → List ℕ → Planned → Type 0
 IsPlannedBy g asked q planned =
-    IsPlanned (net_of meaning_of g) q (looks_of look_back_of g) (reaches_of meaning_of look_back_of content.Items g) (reaches_of meaning_of look_back_of content.Tags g) asked planned
+    IsPlanned (net_of meaning_of g) q (looks_of look_back_of g) (reaches_of meaning_of look_back_of content.Items g)
+    (reaches_of meaning_of look_back_of content.Tags g) asked planned
 
 -- the rates of a graph have a balance
 abbrev pub HasBalance : Flowgraph Kind → List ℕ → Type 0
@@ -53,7 +54,8 @@ GoesOnAsIs g q counting =
     MatchOption counting ((k : ℕ) → HasGoneOn (net_of meaning_of g) q (looks_of look_back_of g) k (net_of meaning_of g))
     (λ block. IsFirstToCount (counting_of counts_of g) block.0)
 
--- or it has no plan: a block does not forget; where there is a balance, slices by it would overlap too far; or memory ran out
+-- or it has no plan: a block does not forget; where there is a balance, slices by it would overlap too far; or memory
+-- ran out
 abbrev pub HasNoPlan : Flowgraph Kind → Asks → Uncut → Type 0
 HasNoPlan g asked (Remembers block) = (q : List ℕ) × HasBalance g q × IsPlannedBy g asked q (answers.Remembers block)
 HasNoPlan g asked Rates = (q : List ℕ) → HasBalance g q → IsPlannedBy g asked q answers.TooLate
@@ -79,11 +81,25 @@ number_of (Some block) = block.0
 
 -- a call was done, for a graph of which this block is the first that counts
 abbrev pub told : ℕ → Option BlockId → ℕ → ℕ → Slicing
-told iterations counting sources sinks = record { status = 0; number = 0; block = number_of counting; iterations = iterations; source_count = sources; sink_count = sinks }
+told iterations counting sources sinks = record {
+  status = 0;
+  number = 0;
+  block = number_of counting;
+  iterations = iterations;
+  source_count = sources;
+  sink_count = sinks;
+}
 
 -- or it was not
 abbrev pub refused : ℕ → ℕ → ℕ → Slicing
-refused status number block = record { status = status; number = number; block = block; iterations = 0; source_count = 0; sink_count = 0 }
+refused status number block = record {
+  status = status;
+  number = number;
+  block = block;
+  iterations = 0;
+  source_count = 0;
+  sink_count = 0;
+}
 
 abbrev pub not_cut : Uncut → Slicing
 not_cut (Remembers block) = refused 1 63 block.0
@@ -92,19 +108,28 @@ not_cut Begin = refused 1 64 no_block
 not_cut Memory = refused 4 32 no_block
 
 -- the plan of a graph, or why it has none
-pub data Plans (g : Flowgraph Kind) (asked : Asks) (sources sources' : List CutSource) (sinks sinks' : List CutSink) (r : Slicing) : Type 0 where
-  PlanShown : (q : List ℕ) → (plan : Plan) → HasPlan g asked q plan → (counting : Option BlockId) → GoesOnAsIs g q counting →
-      sources' ≡ shown (map source_row plan.sources.items) sources → sinks' ≡ shown (map sink_row plan.sinks.items) sinks →
-      r ≡ told plan.overlap counting (length plan.sources.items) (length plan.sinks.items) → Plans g asked sources sources' sinks sinks' r
-  PlanShownNot : (why : Uncut) → HasNoPlan g asked why → sources' ≡ sources → sinks' ≡ sinks → r ≡ not_cut why → Plans g asked sources sources' sinks sinks' r
+pub data Plans (g : Flowgraph Kind) (asked : Asks) (sources sources' : List CutSource) (sinks sinks' : List CutSink)
+    (r : Slicing) : Type 0 where
+  PlanShown : (q : List ℕ) → (plan : Plan) → HasPlan g asked q plan → (counting : Option BlockId)
+      → GoesOnAsIs g q counting →
+      sources' ≡ shown (map source_row plan.sources.items) sources → sinks'
+      ≡ shown (map sink_row plan.sinks.items) sinks →
+      r ≡ told plan.overlap counting (length plan.sources.items) (length plan.sinks.items)
+      → Plans g asked sources sources' sinks sinks' r
+  PlanShownNot : (why : Uncut) → HasNoPlan g asked why → sources' ≡ sources → sinks' ≡ sinks → r ≡ not_cut why
+      → Plans g asked sources sources' sinks sinks' r
 
 -- the slice of its plan that begins at an iteration, or why there is none
-pub data Slices (g : Flowgraph Kind) (asked : Asks) (begins : ℕ) (parts parts' : List CutPart) (r : Slicing) : Type 0 where
-  SliceShown : (q : List ℕ) → (plan : Plan) → HasPlan g asked q plan → CanBegin plan begins → (slice : Slice) → IsSlice (net_of meaning_of g) q (looks_of look_back_of g) plan begins slice →
-      (counting : Option BlockId) → GoesOnAsIs g q counting → parts' ≡ shown (map part_row slice.parts.items) parts →
-      r ≡ told slice.from counting 0 (length slice.parts.items) → Slices g asked begins parts parts' r
-  BegunNot : (q : List ℕ) → (plan : Plan) → HasPlan g asked q plan → CannotBegin plan begins → parts' ≡ parts → r ≡ not_cut Begin → Slices g asked begins parts parts' r
-  SliceShownNot : (why : Uncut) → HasNoPlan g asked why → parts' ≡ parts → r ≡ not_cut why → Slices g asked begins parts parts' r
+pub data Slices (g : Flowgraph Kind) (asked : Asks) (begins : ℕ) (parts parts' : List CutPart) (r : Slicing) : Type 0
+  where
+    SliceShown : (q : List ℕ) → (plan : Plan) → HasPlan g asked q plan → CanBegin plan begins → (slice : Slice)
+        → IsSlice (net_of meaning_of g) q (looks_of look_back_of g) plan begins slice →
+        (counting : Option BlockId) → GoesOnAsIs g q counting → parts' ≡ shown (map part_row slice.parts.items) parts →
+        r ≡ told slice.from counting 0 (length slice.parts.items) → Slices g asked begins parts parts' r
+    BegunNot : (q : List ℕ) → (plan : Plan) → HasPlan g asked q plan → CannotBegin plan begins → parts' ≡ parts → r
+        ≡ not_cut Begin → Slices g asked begins parts parts' r
+    SliceShownNot : (why : Uncut) → HasNoPlan g asked why → parts' ≡ parts → r ≡ not_cut why
+        → Slices g asked begins parts parts' r
 
 -- a call of the graph of the plant that is held, which stays; or none is held
 pub data OnGraph (old new : Option AnyPlant) (Tells : Flowgraph Kind → Type 0) (TellsNone : Type 0) : Type 0 where

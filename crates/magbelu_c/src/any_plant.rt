@@ -85,7 +85,9 @@ impl AnyPlant {
         marks: &[Mark],
     ) -> Result<Fed, PlantFault>
         ensures answered { let old = plant_of self.old in
-            Answered (feed_of (net_of meaning_of old.graph) old.state source.0 (type_of items.now) (numbers_of items.now) (map mark_of marks.now)) old (plant_of self.new) (reply_of (λ f. machine.Fed f.0) result) }
+            Answered (feed_of (net_of meaning_of old.graph) old.state source.0 (type_of items.now)
+            (numbers_of items.now) (map mark_of marks.now)) old (plant_of self.new)
+            (reply_of (λ f. machine.Fed f.0) result) }
         ensures keeps { self.new ≡ with_plant self.old (plant_of self.new) }
     {
         match self {
@@ -104,7 +106,8 @@ impl AnyPlant {
         marks: &[Mark],
     ) -> Result<Fed, PlantFault>
         ensures answered { let old = plant_of self.old in
-            Answered (feed_numbers (net_of meaning_of old.graph) old.state source.0 numbers.now (map mark_of marks.now)) old (plant_of self.new) (reply_of (λ f. machine.Fed f.0) result) }
+            Answered (feed_numbers (net_of meaning_of old.graph) old.state source.0 numbers.now (map mark_of marks.now))
+            old (plant_of self.new) (reply_of (λ f. machine.Fed f.0) result) }
         ensures keeps { self.new ≡ with_plant self.old (plant_of self.new) }
     {
         match self {
@@ -117,7 +120,8 @@ impl AnyPlant {
     #[tactic(auto, using(crate::proofs::Variants::kept_same))]
     pub(crate) fn close(&mut self, source: BlockId) -> Result<Closed, PlantFault>
         ensures answered { let old = plant_of self.old in
-            AnsweredAlways (close_of (net_of meaning_of old.graph) old.state source.0) old (plant_of self.new) (reply_of (λ c. machine.Closed c.0) result) }
+            AnsweredAlways (close_of (net_of meaning_of old.graph) old.state source.0) old (plant_of self.new)
+            (reply_of (λ c. machine.Closed c.0) result) }
         ensures keeps { self.new ≡ with_plant self.old (plant_of self.new) }
     {
         match self {
@@ -135,7 +139,8 @@ impl AnyPlant {
         value: Value,
     ) -> Result<Taken, PlantFault>
         ensures answered { let old = plant_of self.old in
-            Answered (set_of (net_of meaning_of old.graph) old.state block.0 at (value_of value)) old (plant_of self.new) (reply_of (λ t. machine.Taken t.0) result) }
+            Answered (set_of (net_of meaning_of old.graph) old.state block.0 at (value_of value)) old
+            (plant_of self.new) (reply_of (λ t. machine.Taken t.0) result) }
         ensures keeps { self.new ≡ with_plant self.old (plant_of self.new) }
     {
         match self {
@@ -154,7 +159,8 @@ impl AnyPlant {
     ) -> Result<Step, PlantFault>
         requires { 1 ≤ max }
         ensures answered { let old = plant_of self.old in
-            Answered (step_of (net_of meaning_of old.graph) old.capacities old.state block.0 max) old (plant_of self.new) (reply_of step_reply result) }
+            Answered (step_of (net_of meaning_of old.graph) old.capacities old.state block.0 max) old
+            (plant_of self.new) (reply_of step_reply result) }
         ensures keeps { self.new ≡ with_plant self.old (plant_of self.new) }
     {
         match self {
@@ -175,7 +181,8 @@ impl AnyPlant {
 
     /// What a step of a block would come to, or what it waits for.
     pub(crate) fn need(&self, block: BlockId) -> Result<BlockNeed, PlantFault>
-        ensures { let plant = plant_of self.now in wait_in result ≡ need_of (net_of meaning_of plant.graph) plant.capacities plant.state block.0 }
+        ensures { let plant = plant_of self.now in wait_in result ≡ need_of (net_of meaning_of plant.graph)
+            plant.capacities plant.state block.0 }
     {
         match self {
             AnyPlant::Whole(idle) => idle.need(block),

@@ -39,7 +39,8 @@ pub(crate) fn run_between(
     inputs: &[Input<'_>],
     outputs: &[Output<'_>],
 ) -> Result<Given, RawFault>
-    ensures runs { IfOk result (λ given. RunsBetween file.now order inputs.now outputs.now given.lens.items given.bytes.items given.status) }
+    ensures runs { IfOk result (λ given. RunsBetween file.now order inputs.now outputs.now given.lens.items
+        given.bytes.items given.status) }
     ensures fails { IfErr result (FailsBetween file.now order inputs.now outputs.now) }
 {
     let mut idle = match Idle::open(alloc, file) {
@@ -125,8 +126,10 @@ fn take_all(
     order: ByteOrder,
     outputs: &[Output<'_>],
 ) -> Result<(Vec<u64>, Vec<u8>), RawFault>
-    ensures held { IfOk result (λ given. AreHeld (drafted plant.now.graph) plant.now.state order 0 outputs.now given.0.items given.1.items) }
-    ensures fails { IfErr result (λ fault. (fault ≡ Whole (Script Memory)) ⊎ IsMisnamed (drafted plant.now.graph) 0 outputs.now fault) }
+    ensures held { IfOk result (λ given. AreHeld (drafted plant.now.graph) plant.now.state order 0 outputs.now
+        given.0.items given.1.items) }
+    ensures fails { IfErr result (λ fault. (fault ≡ Whole (Script Memory))
+        ⊎ IsMisnamed (drafted plant.now.graph) 0 outputs.now fault) }
 {
     let mut lens = Vec::new(alloc);
     let mut bytes = WriteEnd::new(Vec::new(alloc));
@@ -153,9 +156,11 @@ fn take(
     bytes: &mut WriteEnd<Vec<u8>>,
 ) -> Result<(), RawFault>
     requires { bytes.old.failures ≡ 0 }
-    ensures taken { OnOk result (IsTaken (drafted plant.now.graph) plant.now.state order number output.now bytes.old.writer.items bytes.new.writer.items) }
+    ensures taken { OnOk result (IsTaken (drafted plant.now.graph) plant.now.state order number output.now
+        bytes.old.writer.items bytes.new.writer.items) }
     ensures counted { OnOk result (bytes.new.failures ≡ 0) }
-    ensures fails { IfErr result (λ fault. (fault ≡ Whole (Script Memory)) ⊎ (sink_of (drafted plant.now.graph) number output.now ≡ Err fault)) }
+    ensures fails { IfErr result (λ fault. (fault ≡ Whole (Script Memory))
+        ⊎ (sink_of (drafted plant.now.graph) number output.now ≡ Err fault)) }
 {
     let place = EndPlace::Output(number);
     let sink = match sink_named(plant.graph(), place, output.name) {
@@ -179,7 +184,8 @@ fn write(
     bytes: &mut WriteEnd<Vec<u8>>,
 ) -> Result<(), RawFault>
     requires { bytes.old.failures ≡ 0 }
-    ensures written { OnOk result (bytes.new.writer.items ≡ bytes.old.writer.items ++ output_bytes (drafted plant.now.graph) plant.now.state order output.now sink) }
+    ensures written { OnOk result (bytes.new.writer.items ≡ bytes.old.writer.items
+        ++ output_bytes (drafted plant.now.graph) plant.now.state order output.now sink) }
     ensures counted { bytes.new.failures ≡ bytes.old.failures + raw_writes result }
 {
     if output.tags == 0 {

@@ -53,7 +53,9 @@ pub(crate) fn feed(
     bytes: &[u8],
     marks: &[Mark],
 ) -> Reply
-    ensures calls { Calls (wants (plant_of plant.old) source.now is_fed) (named (plant_of plant.old) source.now (fed_bytes order bytes.now (map mark_of marks.now))) (plant_of plant.old) (plant_of plant.new) result }
+    ensures calls { Calls (wants (plant_of plant.old) source.now is_fed)
+        (named (plant_of plant.old) source.now (fed_bytes order bytes.now (map mark_of marks.now))) (plant_of plant.old)
+        (plant_of plant.new) result }
     ensures keeps { plant.new ≡ with_plant plant.old (plant_of plant.new) }
 {
     let Some(source) = block_named(plant, source) else {
@@ -85,7 +87,9 @@ pub(crate) fn feed_numbers(
     numbers: &[i64],
     marks: &[Mark],
 ) -> Reply
-    ensures calls { Calls false (named (plant_of plant.old) source.now (λ net st b. feed_numbers net st b numbers.now (map mark_of marks.now))) (plant_of plant.old) (plant_of plant.new) result }
+    ensures calls { Calls false (named (plant_of plant.old) source.now
+        (λ net st b. feed_numbers net st b numbers.now (map mark_of marks.now))) (plant_of plant.old)
+        (plant_of plant.new) result }
     ensures keeps { plant.new ≡ with_plant plant.old (plant_of plant.new) }
 {
     let Some(source) = block_named(plant, source) else {
@@ -100,7 +104,8 @@ pub(crate) fn feed_numbers(
 /// Closes a source's tape.
 #[tactic(auto, using(crate::proofs::Variants::same_plant))]
 pub(crate) fn close(plant: &mut AnyPlant, source: &[u8]) -> Reply
-    ensures calls { Calls false (named (plant_of plant.old) source.now close_of) (plant_of plant.old) (plant_of plant.new) result }
+    ensures calls { Calls false (named (plant_of plant.old) source.now close_of) (plant_of plant.old)
+        (plant_of plant.new) result }
     ensures keeps { plant.new ≡ with_plant plant.old (plant_of plant.new) }
 {
     let Some(source) = block_named(plant, source) else {
@@ -115,7 +120,8 @@ pub(crate) fn close(plant: &mut AnyPlant, source: &[u8]) -> Reply
 /// Sets a block's number, from an item on, or from the first that is still open.
 #[tactic(auto, using(crate::proofs::Variants::same_plant))]
 pub(crate) fn set_number(plant: &mut AnyPlant, block: &[u8], at: Option<u64>, number: i64) -> Reply
-    ensures calls { Calls false (named (plant_of plant.old) block.now (λ net st b. set_of net st b at (Number number))) (plant_of plant.old) (plant_of plant.new) result }
+    ensures calls { Calls false (named (plant_of plant.old) block.now (λ net st b. set_of net st b at (Number number)))
+        (plant_of plant.old) (plant_of plant.new) result }
     ensures keeps { plant.new ≡ with_plant plant.old (plant_of plant.new) }
 {
     let Some(block) = block_named(plant, block) else {
@@ -137,7 +143,8 @@ pub(crate) fn set_taps(
     taps: &[i16],
 ) -> Reply
     ensures calls { Calls (wants (plant_of plant.old) block.now (λ net b. true))
-        (named (plant_of plant.old) block.now (λ net st b. set_of net st b at (Weights taps.now))) (plant_of plant.old) (plant_of plant.new) result }
+        (named (plant_of plant.old) block.now (λ net st b. set_of net st b at (Weights taps.now))) (plant_of plant.old)
+        (plant_of plant.new) result }
     ensures keeps { plant.new ≡ with_plant plant.old (plant_of plant.new) }
 {
     let Some(block) = block_named(plant, block) else {
@@ -167,7 +174,8 @@ fn taps_value(alloc: Global, taps: &[i16]) -> Result<Value, AllocError>
 /// Does at most so many firings of a block.
 #[tactic(auto, using(crate::proofs::Variants::same_plant))]
 pub(crate) fn step(alloc: Global, plant: &mut AnyPlant, block: &[u8], max: u32) -> Reply
-    ensures calls { Calls false (named (plant_of plant.old) block.now (stepped (plant_of plant.old).capacities max)) (plant_of plant.old) (plant_of plant.new) result }
+    ensures calls { Calls false (named (plant_of plant.old) block.now (stepped (plant_of plant.old).capacities max))
+        (plant_of plant.old) (plant_of plant.new) result }
     ensures keeps { plant.new ≡ with_plant plant.old (plant_of plant.new) }
 {
     let Some(block) = block_named(plant, block) else {
@@ -184,7 +192,8 @@ pub(crate) fn step(alloc: Global, plant: &mut AnyPlant, block: &[u8], max: u32) 
 
 /// How many bytes an item of a source has.
 pub(crate) fn size_of(plant: &AnyPlant, source: &[u8]) -> Reply
-    ensures { result ≡ sized (net_of meaning_of (plant_of plant.now).graph) (position (bytes_eq source.now) (plant_of plant.now).graph.names) }
+    ensures { result ≡ sized (net_of meaning_of (plant_of plant.now).graph)
+        (position (bytes_eq source.now) (plant_of plant.now).graph.names) }
 {
     let Some(source) = block_named(plant, source) else {
         return refusal(PlantFault::NoSuchBlock);
@@ -235,7 +244,8 @@ fn whole_items(
     bytes: &[u8],
 ) -> Result<Option<Items>, AllocError>
     ensures cut { IfOk result (λ items. is_some items ≡ not (nat_lt 0 (length (cut_of item_type bytes.now)))) }
-    ensures items { IfOk result (λ found. IfSome found (λ items. (type_of items ≡ item_type) × (numbers_of items ≡ items_of item_type order bytes.now))) }
+    ensures items { IfOk result (λ found. IfSome found (λ items. (type_of items ≡ item_type)
+        × (numbers_of items ≡ items_of item_type order bytes.now))) }
 {
     let mut items = Items::empty(alloc, item_type);
     let mut decoder = Decoder::new(item_type, order);

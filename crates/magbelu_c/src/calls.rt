@@ -30,7 +30,8 @@ pub extern "C" fn magbelu_bytes_check(
     output: &mut [u8],
     error: &mut [u8],
 ) -> Answer
-    ensures { Answers (IsCheck file.now) (WasNot (IsCheck file.now) (graph_in file.now)) output.old output.new error.old error.new result }
+    ensures { Answers (IsCheck file.now) (WasNot (IsCheck file.now) (graph_in file.now)) output.old output.new error.old
+        error.new result }
 {
     let mut text = WriteEnd::new(Vec::new(alloc));
     match check(alloc, file, &mut text) {
@@ -47,7 +48,8 @@ pub extern "C" fn magbelu_bytes_run(
     output: &mut [u8],
     error: &mut [u8],
 ) -> Answer
-    ensures { Answers (IsRunAlone file.now) (WasNot (IsRunAlone file.now) (plant_in file.now)) output.old output.new error.old error.new result }
+    ensures { Answers (IsRunAlone file.now) (WasNot (IsRunAlone file.now) (plant_in file.now)) output.old output.new
+        error.old error.new result }
 {
     let mut text = WriteEnd::new(Vec::new(alloc));
     match run_alone(alloc, file, &mut text, &mut Unwatched) {
@@ -65,7 +67,8 @@ pub extern "C" fn magbelu_bytes_script(
     output: &mut [u8],
     error: &mut [u8],
 ) -> Answer
-    ensures { Answers (IsScripted file.now script.now) (WasNotScripted file.now script.now) output.old output.new error.old error.new result }
+    ensures { Answers (IsScripted file.now script.now) (WasNotScripted file.now script.now) output.old output.new
+        error.old error.new result }
 {
     let mut lines = ReadEnd::new(script);
     let mut text = WriteEnd::new(Vec::new(alloc));

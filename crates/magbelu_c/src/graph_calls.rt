@@ -21,7 +21,8 @@ use std::alloc::Global;
 /// Tells how many blocks there are.
 #[unsafe(no_mangle)]
 pub extern "C" fn magbelu_bytes_block_count(alloc: Global, plant: &mut Handle) -> Reply
-    ensures { OnHeld plant.old.plant plant.new.plant (λ p p' r. (p' ≡ p) × (r ≡ done 0 (length (plant_of p).graph.blocks))) result }
+    ensures { OnHeld plant.old.plant plant.new.plant (λ p p' r. (p' ≡ p)
+        × (r ≡ done 0 (length (plant_of p).graph.blocks))) result }
 {
     let Some(held) = plant.take(alloc) else {
         return not_open();
@@ -58,7 +59,8 @@ pub extern "C" fn magbelu_bytes_connections(
     plant: &mut Handle,
     links: &mut [Link],
 ) -> Reply
-    ensures { OnGraph plant.old.plant plant.new.plant (λ g. Links g links.old links.new result) ((links.new ≡ links.old) × (result ≡ not_open)) }
+    ensures { OnGraph plant.old.plant plant.new.plant (λ g. Links g links.old links.new result)
+        ((links.new ≡ links.old) × (result ≡ not_open)) }
 {
     let Some(held) = plant.take(alloc) else {
         return not_open();
@@ -76,7 +78,8 @@ pub extern "C" fn magbelu_bytes_draw(
     mermaid: u32,
     output: &mut [u8],
 ) -> Answer
-    ensures { OnGraph plant.old.plant plant.new.plant (λ g. Draws g (format_of mermaid) output.old output.new result) ((output.new ≡ output.old) × (result ≡ told 1 55 0)) }
+    ensures { OnGraph plant.old.plant plant.new.plant (λ g. Draws g (format_of mermaid) output.old output.new result)
+        ((output.new ≡ output.old) × (result ≡ told 1 55 0)) }
 {
     let Some(held) = plant.take(alloc) else {
         let reply = not_open();
@@ -90,7 +93,8 @@ pub extern "C" fn magbelu_bytes_draw(
 /// Tells how many items the buffer of each connection has room for, in the order of the file.
 #[unsafe(no_mangle)]
 pub extern "C" fn magbelu_bytes_rooms(alloc: Global, plant: &mut Handle, rooms: &mut [u64]) -> Reply
-    ensures { OnGraph plant.old.plant plant.new.plant (λ g. Rooms g rooms.old rooms.new result) ((rooms.new ≡ rooms.old) × (result ≡ not_open)) }
+    ensures { OnGraph plant.old.plant plant.new.plant (λ g. Rooms g rooms.old rooms.new result)
+        ((rooms.new ≡ rooms.old) × (result ≡ not_open)) }
 {
     let Some(held) = plant.take(alloc) else {
         return not_open();
@@ -108,7 +112,8 @@ pub extern "C" fn magbelu_bytes_setting(
     number: u32,
     taps: &mut [i16],
 ) -> BlockSetting
-    ensures { OnGraph plant.old.plant plant.new.plant (λ g. TellsSetting g number taps.old taps.new result) ((taps.new ≡ taps.old) × (result ≡ unset not_open)) }
+    ensures { OnGraph plant.old.plant plant.new.plant (λ g. TellsSetting g number taps.old taps.new result)
+        ((taps.new ≡ taps.old) × (result ≡ unset not_open)) }
 {
     let Some(held) = plant.take(alloc) else {
         return unset(not_open());
@@ -126,7 +131,8 @@ pub extern "C" fn magbelu_bytes_rates(
     number: u32,
     takes: &mut [u64],
 ) -> BlockRates
-    ensures { OnGraph plant.old.plant plant.new.plant (λ g. TellsRates g number takes.old takes.new result) ((takes.new ≡ takes.old) × (result ≡ unrated not_open)) }
+    ensures { OnGraph plant.old.plant plant.new.plant (λ g. TellsRates g number takes.old takes.new result)
+        ((takes.new ≡ takes.old) × (result ≡ unrated not_open)) }
 {
     let Some(held) = plant.take(alloc) else {
         return unrated(not_open());
@@ -143,7 +149,8 @@ pub extern "C" fn magbelu_bytes_firings(
     plant: &mut Handle,
     firings: &mut [u32],
 ) -> Reply
-    ensures { OnGraph plant.old.plant plant.new.plant (λ g. TellsFirings g firings.old firings.new result) ((firings.new ≡ firings.old) × (result ≡ not_open)) }
+    ensures { OnGraph plant.old.plant plant.new.plant (λ g. TellsFirings g firings.old firings.new result)
+        ((firings.new ≡ firings.old) × (result ≡ not_open)) }
 {
     let Some(held) = plant.take(alloc) else {
         return not_open();

@@ -155,7 +155,8 @@ pub extern "C" fn magbelu_bytes_free(alloc: Global, plant: &mut Handle) -> Reply
 #[unsafe(no_mangle)]
 pub extern "C" fn magbelu_bytes_item_size(alloc: Global, plant: &mut Handle, source: &[u8]) -> Reply
     ensures { OnHeld plant.old.plant plant.new.plant (λ p p' r.
-        (p' ≡ p) × (r ≡ sized (net_of meaning_of (plant_of p).graph) (position (bytes_eq source.now) (plant_of p).graph.names))) result }
+        (p' ≡ p) × (r ≡ sized (net_of meaning_of (plant_of p).graph) (position (bytes_eq source.now)
+        (plant_of p).graph.names))) result }
 {
     let Some(held) = plant.take(alloc) else {
         return not_open();
@@ -176,7 +177,8 @@ pub extern "C" fn magbelu_bytes_feed(
     tags: &[Mark<'_>],
 ) -> Reply
     ensures { OnHeld plant.old.plant plant.new.plant (λ p p' r.
-        Feeds tags.now p p' r (λ ms. CallsOn (wants (plant_of p) source.now is_fed) (named (plant_of p) source.now (fed_bytes (order_of big_endian) bytes.now ms)) p p' r)) result }
+        Feeds tags.now p p' r (λ ms. CallsOn (wants (plant_of p) source.now is_fed)
+        (named (plant_of p) source.now (fed_bytes (order_of big_endian) bytes.now ms)) p p' r)) result }
 {
     let Some(mut held) = plant.take(alloc) else {
         return not_open();
@@ -196,7 +198,8 @@ pub extern "C" fn magbelu_bytes_feed_numbers(
     tags: &[Mark<'_>],
 ) -> Reply
     ensures { OnHeld plant.old.plant plant.new.plant (λ p p' r.
-        Feeds tags.now p p' r (λ ms. CallsOn false (named (plant_of p) source.now (λ net st b. feed_numbers net st b numbers.now ms)) p p' r)) result }
+        Feeds tags.now p p' r (λ ms. CallsOn false (named (plant_of p) source.now
+        (λ net st b. feed_numbers net st b numbers.now ms)) p p' r)) result }
 {
     let Some(mut held) = plant.take(alloc) else {
         return not_open();
@@ -209,7 +212,8 @@ pub extern "C" fn magbelu_bytes_feed_numbers(
 /// Closes a source's tape.
 #[unsafe(no_mangle)]
 pub extern "C" fn magbelu_bytes_close(alloc: Global, plant: &mut Handle, source: &[u8]) -> Reply
-    ensures { OnHeld plant.old.plant plant.new.plant (λ p. CallsOn false (named (plant_of p) source.now close_of) p) result }
+    ensures { OnHeld plant.old.plant plant.new.plant (λ p. CallsOn false (named (plant_of p) source.now close_of) p)
+        result }
 {
     let Some(mut held) = plant.take(alloc) else {
         return not_open();
@@ -228,7 +232,8 @@ pub extern "C" fn magbelu_bytes_set(
     at: u64,
     number: i64,
 ) -> Reply
-    ensures { OnHeld plant.old.plant plant.new.plant (λ p. CallsOn false (named (plant_of p) block.now (λ net st b. set_of net st b (at_of at) (Number number))) p) result }
+    ensures { OnHeld plant.old.plant plant.new.plant (λ p. CallsOn false
+        (named (plant_of p) block.now (λ net st b. set_of net st b (at_of at) (Number number))) p) result }
 {
     let Some(mut held) = plant.take(alloc) else {
         return not_open();
@@ -248,7 +253,8 @@ pub extern "C" fn magbelu_bytes_set_taps(
     taps: &[i16],
 ) -> Reply
     ensures { OnHeld plant.old.plant plant.new.plant (λ p.
-        CallsOn (wants (plant_of p) block.now (λ net b. true)) (named (plant_of p) block.now (λ net st b. set_of net st b (at_of at) (Taps taps.now))) p) result }
+        CallsOn (wants (plant_of p) block.now (λ net b. true)) (named (plant_of p) block.now
+        (λ net st b. set_of net st b (at_of at) (Taps taps.now))) p) result }
 {
     let Some(mut held) = plant.take(alloc) else {
         return not_open();
@@ -273,7 +279,8 @@ pub extern "C" fn magbelu_bytes_step(
     block: &[u8],
     max: u32,
 ) -> Reply
-    ensures { OnHeld plant.old.plant plant.new.plant (λ p. CallsOn false (named (plant_of p) block.now (stepped (plant_of p).capacities max)) p) result }
+    ensures { OnHeld plant.old.plant plant.new.plant (λ p. CallsOn false
+        (named (plant_of p) block.now (stepped (plant_of p).capacities max)) p) result }
 {
     let Some(mut held) = plant.take(alloc) else {
         return not_open();
@@ -308,7 +315,8 @@ pub extern "C" fn magbelu_bytes_read(
     bytes: &mut [u8],
     tags: &mut [u8],
 ) -> Piece
-    ensures { Shows plant.old.plant plant.new.plant sink.now from max (order_of big_endian) bytes.old bytes.new tags.old tags.new result }
+    ensures { Shows plant.old.plant plant.new.plant sink.now from max (order_of big_endian) bytes.old bytes.new tags.old
+        tags.new result }
 {
     let Some(held) = plant.take(alloc) else {
         return unshown(not_open());
@@ -339,7 +347,8 @@ pub extern "C" fn magbelu_bytes_drain(
     bytes: &mut [u8],
     tags: &mut [u8],
 ) -> Piece
-    ensures { Drains plant.old.plant plant.new.plant sink.now max (order_of big_endian) bytes.old bytes.new tags.old tags.new result }
+    ensures { Drains plant.old.plant plant.new.plant sink.now max (order_of big_endian) bytes.old bytes.new tags.old
+        tags.new result }
 {
     let Some(mut held) = plant.take(alloc) else {
         return unshown(not_open());

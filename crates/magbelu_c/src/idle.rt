@@ -88,7 +88,8 @@ impl Idle {
         items: &Items,
         marks: &[Mark],
     ) -> Result<Fed, PlantFault>
-        ensures { Answered (feed_of (net_of meaning_of self.old.graph) self.old.state source.0 (type_of items.now) (numbers_of items.now) (map mark_of marks.now)) self.old self.new (reply_of (λ f. machine.Fed f.0) result) }
+        ensures { Answered (feed_of (net_of meaning_of self.old.graph) self.old.state source.0 (type_of items.now)
+            (numbers_of items.now) (map mark_of marks.now)) self.old self.new (reply_of (λ f. machine.Fed f.0) result) }
     {
         self.plant.feed_from(source, items, marks)
     }
@@ -101,7 +102,8 @@ impl Idle {
         numbers: &[i64],
         marks: &[Mark],
     ) -> Result<Fed, PlantFault>
-        ensures { Answered (feed_numbers (net_of meaning_of self.old.graph) self.old.state source.0 numbers.now (map mark_of marks.now)) self.old self.new (reply_of (λ f. machine.Fed f.0) result) }
+        ensures { Answered (feed_numbers (net_of meaning_of self.old.graph) self.old.state source.0 numbers.now
+            (map mark_of marks.now)) self.old self.new (reply_of (λ f. machine.Fed f.0) result) }
     {
         self.plant.feed_numbers(alloc, source, numbers, marks)
     }
@@ -118,15 +120,18 @@ impl Idle {
     ) -> Result<(), RawFault>
         requires reads { I.failed input.old < 2 ^ 64 - 1 }
         ensures same { self.new ≡ in_state self.old self.new.state }
-        ensures fed { OnOk result (IsFedBy (net_of meaning_of self.old.graph) self.old.state self.new.state source.0 order (I.remaining input.old) (I.remaining input.new)) }
-        ensures stops { IfErr result (StopsFeeding (net_of meaning_of self.old.graph) self.old.state source.0 order number (I.remaining input.old) (I.remaining input.new)) }
+        ensures fed { OnOk result (IsFedBy (net_of meaning_of self.old.graph) self.old.state self.new.state source.0
+            order (I.remaining input.old) (I.remaining input.new)) }
+        ensures stops { IfErr result (StopsFeeding (net_of meaning_of self.old.graph) self.old.state source.0 order
+            number (I.remaining input.old) (I.remaining input.new)) }
     {
         raw_input::feed_from(alloc, &mut self.plant, number, source, order, input)
     }
 
     /// Closes a source's tape.
     pub(crate) fn close(&mut self, source: BlockId) -> Result<Closed, PlantFault>
-        ensures { AnsweredAlways (close_of (net_of meaning_of self.old.graph) self.old.state source.0) self.old self.new (reply_of (λ c. machine.Closed c.0) result) }
+        ensures { AnsweredAlways (close_of (net_of meaning_of self.old.graph) self.old.state source.0) self.old self.new
+            (reply_of (λ c. machine.Closed c.0) result) }
     {
         self.plant.close(source)
     }
@@ -138,7 +143,8 @@ impl Idle {
         at: Option<u64>,
         value: Value,
     ) -> Result<Taken, PlantFault>
-        ensures { Answered (set_of (net_of meaning_of self.old.graph) self.old.state block.0 at (value_of value)) self.old self.new (reply_of (λ t. machine.Taken t.0) result) }
+        ensures { Answered (set_of (net_of meaning_of self.old.graph) self.old.state block.0 at (value_of value))
+            self.old self.new (reply_of (λ t. machine.Taken t.0) result) }
     {
         self.plant.set(block, at, value)
     }
@@ -151,7 +157,8 @@ impl Idle {
         max: u32,
     ) -> Result<Step, PlantFault>
         requires { 1 ≤ max }
-        ensures { Answered (step_of (net_of meaning_of self.old.graph) self.old.capacities self.old.state block.0 max) self.old self.new (reply_of step_reply result) }
+        ensures { Answered (step_of (net_of meaning_of self.old.graph) self.old.capacities self.old.state block.0 max)
+            self.old self.new (reply_of step_reply result) }
     {
         self.plant.recall();
         self.plant.step(alloc, block, max)
@@ -159,7 +166,8 @@ impl Idle {
 
     /// What a step of a block would come to, or what it waits for.
     pub(crate) fn need(&self, block: BlockId) -> Result<BlockNeed, PlantFault>
-        ensures { wait_in result ≡ need_of (net_of meaning_of self.now.graph) self.now.capacities self.now.state block.0 }
+        ensures { wait_in result ≡ need_of (net_of meaning_of self.now.graph) self.now.capacities self.now.state
+            block.0 }
     {
         self.plant.need(block)
     }

@@ -86,7 +86,8 @@ pub extern "C" fn magbelu_kernel_multiply_ints(a: &[i32], number: i32, out: &mut
 /// The bits that both of two bytes have.
 #[unsafe(no_mangle)]
 pub extern "C" fn magbelu_kernel_and_bytes(a: &[u8], b: &[u8], out: &mut [u8]) -> u32
-    ensures { Makes (AreAlike a.now b.now out.old) (map pos out.new ≡ and_bits Byte (map pos a.now) (map pos b.now)) out.old out.new result }
+    ensures { Makes (AreAlike a.now b.now out.old) (map pos out.new ≡ and_bits Byte (map pos a.now) (map pos b.now))
+        out.old out.new result }
 {
     where_alike!(are_alike(a, b, out), join_bits::<u8, AndBits>(a, b, out))
 }
@@ -94,7 +95,8 @@ pub extern "C" fn magbelu_kernel_and_bytes(a: &[u8], b: &[u8], out: &mut [u8]) -
 /// The bits that either of two bytes has.
 #[unsafe(no_mangle)]
 pub extern "C" fn magbelu_kernel_or_bytes(a: &[u8], b: &[u8], out: &mut [u8]) -> u32
-    ensures { Makes (AreAlike a.now b.now out.old) (map pos out.new ≡ or_bits Byte (map pos a.now) (map pos b.now)) out.old out.new result }
+    ensures { Makes (AreAlike a.now b.now out.old) (map pos out.new ≡ or_bits Byte (map pos a.now) (map pos b.now))
+        out.old out.new result }
 {
     where_alike!(are_alike(a, b, out), join_bits::<u8, OrBits>(a, b, out))
 }
@@ -102,7 +104,8 @@ pub extern "C" fn magbelu_kernel_or_bytes(a: &[u8], b: &[u8], out: &mut [u8]) ->
 /// The bits that one of two bytes has alone.
 #[unsafe(no_mangle)]
 pub extern "C" fn magbelu_kernel_xor_bytes(a: &[u8], b: &[u8], out: &mut [u8]) -> u32
-    ensures { Makes (AreAlike a.now b.now out.old) (map pos out.new ≡ xor_bits Byte (map pos a.now) (map pos b.now)) out.old out.new result }
+    ensures { Makes (AreAlike a.now b.now out.old) (map pos out.new ≡ xor_bits Byte (map pos a.now) (map pos b.now))
+        out.old out.new result }
 {
     where_alike!(are_alike(a, b, out), join_bits::<u8, XorBits>(a, b, out))
 }

@@ -23,7 +23,8 @@ pub extern "C" fn magbelu_bytes_run_items(
     bytes: &mut [u8],
     error: &mut [u8],
 ) -> Answer
-    ensures { AnswersRun file.now (order_of big_endian) inputs.now outputs.now lens.old lens.new bytes.old bytes.new error.old error.new result }
+    ensures { AnswersRun file.now (order_of big_endian) inputs.now outputs.now lens.old lens.new bytes.old bytes.new
+        error.old error.new result }
 {
     match run_between(alloc, file, order(big_endian), inputs, outputs) {
         Ok(given) => {

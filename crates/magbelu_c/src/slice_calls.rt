@@ -19,7 +19,8 @@ pub extern "C" fn magbelu_bytes_slices(
     sources: &mut [CutSource],
     sinks: &mut [CutSink],
 ) -> Slicing
-    ensures { OnGraph plant.old.plant plant.new.plant (λ g. Plans g (asks_of tags) sources.old sources.new sinks.old sinks.new result)
+    ensures { OnGraph plant.old.plant plant.new.plant (λ g. Plans g (asks_of tags) sources.old sources.new sinks.old
+        sinks.new result)
         ((sources.new ≡ sources.old) × (sinks.new ≡ sinks.old) × (result ≡ refused 1 55 no_block)) }
 {
     let Some(held) = plant.take(alloc) else {

@@ -29,7 +29,8 @@ pub(crate) fn feed(
     tags: &[tables::Mark<'_>],
 ) -> Reply
     ensures { Feeds tags.now plant.old plant.new result (λ ms.
-        CallsOn (wants (plant_of plant.old) source.now is_fed) (named (plant_of plant.old) source.now (fed_bytes order bytes.now ms)) plant.old plant.new result) }
+        CallsOn (wants (plant_of plant.old) source.now is_fed) (named (plant_of plant.old) source.now
+        (fed_bytes order bytes.now ms)) plant.old plant.new result) }
 {
     let found = match marks_of(alloc, tags) {
         Ok(found) => found,
@@ -50,7 +51,8 @@ pub(crate) fn feed_numbers(
     tags: &[tables::Mark<'_>],
 ) -> Reply
     ensures { Feeds tags.now plant.old plant.new result (λ ms.
-        CallsOn false (named (plant_of plant.old) source.now (λ net st b. feed_numbers net st b numbers.now ms)) plant.old plant.new result) }
+        CallsOn false (named (plant_of plant.old) source.now (λ net st b. feed_numbers net st b numbers.now ms))
+        plant.old plant.new result) }
 {
     let found = match marks_of(alloc, tags) {
         Ok(found) => found,

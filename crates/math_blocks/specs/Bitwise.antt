@@ -21,7 +21,8 @@ sums_joined =
     fold_joined sum_of sum_of_two
     record {
       alone = λ t z are. ap (wrap t) (with_none z) ∙ wrap_own t z are;
-      one_more = λ t zs z. ap (wrap t) (total-push zs z ∙ swap (total zs) z) ∙ sym (wrap-add_right t z (total zs)) ∙ ap (wrap t) (swap z (wrap t (total zs)));
+      one_more = λ t zs z. ap (wrap t) (total-push zs z ∙ swap (total zs) z) ∙ sym (wrap-add_right t z (total zs)) ∙ ap
+          (wrap t) (swap z (wrap t (total zs)));
     }
   where
     with_none : (z : ℤ) → z +ℤ pos 0 ≡ z
@@ -51,17 +52,22 @@ bits-wrap Int b h = grind (arith, nat_tests, h)
 module _ (op : ℕ → ℕ → ℕ) (none : ItemType → ℕ) (is : IsBitwise op none) where
   all_bits-less : (t : ItemType) (zs : List ℤ) → all_bits op (none t) t zs < numbers_in t
   all_bits-less t [] = is.none_less t
-  all_bits-less t (z ∷ zs) = is.keeps (bits_of t) (bits_in t z) (all_bits op (none t) t zs) (bits-less t z) (all_bits-less t zs)
+  all_bits-less t (z ∷ zs) = is.keeps (bits_of t) (bits_in t z) (all_bits op (none t) t zs) (bits-less t z)
+      (all_bits-less t zs)
 
-  all_bits-push : (t : ItemType) (zs : List ℤ) (z : ℤ) → all_bits op (none t) t (zs ++ z ∷ []) ≡ op (all_bits op (none t) t zs) (bits_in t z)
+  all_bits-push : (t : ItemType) (zs : List ℤ) (z : ℤ) → all_bits op (none t) t (zs ++ z ∷ [])
+      ≡ op (all_bits op (none t) t zs) (bits_in t z)
   all_bits-push t [] z = is.comm (bits_in t z) (none t)
-  all_bits-push t (y ∷ zs) z = ap (op (bits_in t y)) (all_bits-push t zs z) ∙ sym (is.assoc (bits_in t y) (all_bits op (none t) t zs) (bits_in t z))
+  all_bits-push t (y ∷ zs) z = ap (op (bits_in t y)) (all_bits-push t zs z) ∙ sym
+      (is.assoc (bits_in t y) (all_bits op (none t) t zs) (bits_in t z))
 
   pub bits_are_joined : AreJoined (bits_of_all op none) itself (bits_joined op)
   bits_are_joined =
       fold_joined (bits_of_all op none) (bits_joined op)
       record {
-        alone = λ t z are. ap (λ b. wrap t (pos b)) (is.comm (bits_in t z) (none t) ∙ is.unit t (bits_in t z) (bits-less t z)) ∙ wrap-bits t z ∙ wrap_own t z are;
+        alone = λ t z are. ap (λ b. wrap t (pos b)) (is.comm (bits_in t z) (none t) ∙ is.unit t (bits_in t z)
+            (bits-less t z)) ∙ wrap-bits t z ∙ wrap_own t z are;
         one_more = λ t zs z.
-            ap (λ b. wrap t (pos b)) (all_bits-push t zs z ∙ ap (λ b. op b (bits_in t z)) (sym (bits-wrap t (all_bits op (none t) t zs) (all_bits-less t zs))));
+            ap (λ b. wrap t (pos b)) (all_bits-push t zs z ∙ ap (λ b. op b (bits_in t z))
+            (sym (bits-wrap t (all_bits op (none t) t zs) (all_bits-less t zs))));
       }

@@ -27,7 +27,8 @@ differences_joined =
       one = λ t z are. refl;
       two = λ t y z are. ap (wrap t) (less_none y z);
       one_more = λ t x y zs z.
-          ap (λ s. wrap t (x -ℤ s)) (total-push (y ∷ zs) z) ∙ ap (wrap t) (less_both x (total (y ∷ zs)) z) ∙ sym (wrap-sub_left t (x -ℤ total (y ∷ zs)) z);
+          ap (λ s. wrap t (x -ℤ s)) (total-push (y ∷ zs) z) ∙ ap (wrap t) (less_both x (total (y ∷ zs)) z) ∙ sym
+          (wrap-sub_left t (x -ℤ total (y ∷ zs)) z);
     }
 
 minus_one : (z : ℤ) → negsuc 0 *ℤ z ≡ pos 0 -ℤ z

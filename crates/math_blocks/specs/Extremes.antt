@@ -15,7 +15,15 @@ within_least : (t : ItemType) (z : ℤ) → IsItem t z → greater z (least_of t
 within_least t z are = grind (arith, ints, are.above)
 
 pub least_joined : AreJoined least_among itself lesser_of_two
-least_joined = fold_joined least_among lesser_of_two record { alone = within_greatest; one_more = λ t zs z. least-push (greatest_of t) zs z }
+least_joined = fold_joined least_among lesser_of_two record {
+  alone = within_greatest;
+  one_more = λ t zs z. least-push
+      (greatest_of t) zs z;
+}
 
 pub greatest_joined : AreJoined greatest_among itself greater_of_two
-greatest_joined = fold_joined greatest_among greater_of_two record { alone = within_least; one_more = λ t zs z. greatest-push (least_of t) zs z }
+greatest_joined = fold_joined greatest_among greater_of_two record {
+  alone = within_least;
+  one_more = λ t zs z.
+      greatest-push (least_of t) zs z;
+}

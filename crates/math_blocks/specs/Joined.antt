@@ -20,7 +20,8 @@ abbrev pub joined_of : (ItemType → List ℤ → ℤ) → ItemType → Meaning
 joined_of joins t = record (at_rate (any_ports t) (ports 1 t) 1 1) { out = λ ts xs p n. joins t (items_at xs n) }
 
 -- blocks that the derived test finds equal mean the same
-pub joined-same : {J : Type 0} (equation : ItemType → Meaning) (a b : Joined J) → (sameb the_type a.item b.item && true) ≡ true → equation a.item ≡ equation b.item
+pub joined-same : {J : Type 0} (equation : ItemType → Meaning) (a b : Joined J) → (sameb the_type a.item b.item && true)
+    ≡ true → equation a.item ≡ equation b.item
 joined-same equation a b e = ap equation (same_item a.item b.item (first_so (sameb the_type a.item b.item) true e))
 
 -- what is made of one number is the number, and of one more is made by `pair` of it and what was made of the others
@@ -28,18 +29,22 @@ pub record IsFold (joins : ItemType → List ℤ → ℤ) (pair : ItemType → �
   pub alone : (t : ItemType) (z : ℤ) → IsItem t z → joins t (z ∷ []) ≡ z
   pub one_more : (t : ItemType) (zs : List ℤ) (z : ℤ) → joins t (zs ++ z ∷ []) ≡ pair t (joins t zs) z
 
--- what is made of one number is made by `alone`, of two by `pair`, and of one more by `pair` of it and what was made of the others
-pub record AreJoined (joins : ItemType → List ℤ → ℤ) (alone : ItemType → ℤ → ℤ) (pair : ItemType → ℤ → ℤ → ℤ) : Type 0 where
-  pub one : (t : ItemType) (z : ℤ) → IsItem t z → joins t (z ∷ []) ≡ alone t z
-  pub two : (t : ItemType) (y z : ℤ) → IsItem t y → joins t (y ∷ z ∷ []) ≡ pair t y z
-  pub one_more : (t : ItemType) (x y : ℤ) (zs : List ℤ) (z : ℤ) → joins t (x ∷ y ∷ zs ++ z ∷ []) ≡ pair t (joins t (x ∷ y ∷ zs)) z
+-- what is made of one number is made by `alone`, of two by `pair`, and of one more by `pair` of it and what was made of
+-- the others
+pub record AreJoined (joins : ItemType → List ℤ → ℤ) (alone : ItemType → ℤ → ℤ) (pair : ItemType → ℤ → ℤ → ℤ) : Type 0
+  where
+    pub one : (t : ItemType) (z : ℤ) → IsItem t z → joins t (z ∷ []) ≡ alone t z
+    pub two : (t : ItemType) (y z : ℤ) → IsItem t y → joins t (y ∷ z ∷ []) ≡ pair t y z
+    pub one_more : (t : ItemType) (x y : ℤ) (zs : List ℤ) (z : ℤ) → joins t (x ∷ y ∷ zs ++ z ∷ [])
+        ≡ pair t (joins t (x ∷ y ∷ zs)) z
 
 -- a number as it is
 abbrev pub itself : ItemType → ℤ → ℤ
 itself t z = z
 
 -- what is made one number after the other from the first on is joined so
-pub fold_joined : (joins : ItemType → List ℤ → ℤ) (pair : ItemType → ℤ → ℤ → ℤ) → IsFold joins pair → AreJoined joins itself pair
+pub fold_joined : (joins : ItemType → List ℤ → ℤ) (pair : ItemType → ℤ → ℤ → ℤ) → IsFold joins pair
+    → AreJoined joins itself pair
 fold_joined joins pair fold =
     record {
       one = fold.alone;

@@ -46,17 +46,25 @@ abbrev pub convert_of : Convert → Meaning
 convert_of b = convert b.item b.to
 
 -- blocks that the derived test finds equal mean the same
-same_numbers : (s t : ItemType) (y z : ℤ) (rest : Bool) → (sameb the_type s t && (int_eq y z && rest)) ≡ true → (s ≡ t) × (y ≡ z) × (rest ≡ true)
+same_numbers : (s t : ItemType) (y z : ℤ) (rest : Bool) → (sameb the_type s t && (int_eq y z && rest)) ≡ true → (s ≡ t)
+    × (y ≡ z) × (rest ≡ true)
 same_numbers s t y z rest e =
-    let others = second_so (sameb the_type s t) (int_eq y z && rest) e in
-    (same_item s t (first_so (sameb the_type s t) (int_eq y z && rest) e), (signed_Decides y z).0 (first_so (int_eq y z) rest others), second_so (int_eq y z) rest others)
+    let others = second_so (sameb the_type s t) (int_eq y z && rest) e in (
+      same_item s t (first_so (sameb the_type s t) (int_eq y z && rest) e),
+      (signed_Decides y z).0
+          (first_so (int_eq y z) rest others),
+      second_so (int_eq y z) rest others,
+    )
 
 pub constant-same :
-    {A : Type 0} (equation : ItemType → ℤ → Meaning) (a b : Constant A) → (sameb the_type a.item b.item && (int_eq a.value b.value && true)) ≡ true →
+    {A : Type 0} (equation : ItemType → ℤ → Meaning) (a b : Constant A)
+    → (sameb the_type a.item b.item && (int_eq a.value b.value && true)) ≡ true →
     equation a.item a.value ≡ equation b.item b.value
-constant-same equation a b e = let same = same_numbers a.item b.item a.value b.value true e in ap₂ equation same.0 same.1
+constant-same equation a b e = let same = same_numbers a.item b.item a.value b.value true e in ap₂ equation same.0
+    same.1
 
-pub clip-same : (m n : Nearest) → (sameb the_type m.item n.item && (int_eq m.low n.low && int_eq m.high n.high)) ≡ true → clip_of m ≡ clip_of n
+pub clip-same : (m n : Nearest) → (sameb the_type m.item n.item && (int_eq m.low n.low && int_eq m.high n.high)) ≡ true
+    → clip_of m ≡ clip_of n
 clip-same m n e =
     let same = same_numbers m.item n.item m.low n.low (int_eq m.high n.high) e in
     let item_same = same.0 in
@@ -64,24 +72,29 @@ clip-same m n e =
     let high_same = (signed_Decides m.high n.high).0 same.2 in
     λ i. clip (item_same i) (low_same i) (high_same i)
 
-pub binary_slicer-same : (m n : AtLeast) → (sameb the_type m.item n.item && int_eq m.threshold n.threshold) ≡ true → binary_slicer_of m ≡ binary_slicer_of n
+pub binary_slicer-same : (m n : AtLeast) → (sameb the_type m.item n.item && int_eq m.threshold n.threshold) ≡ true
+    → binary_slicer_of m ≡ binary_slicer_of n
 binary_slicer-same m n e =
-    ap₂ binary_slicer (same_item m.item n.item (first_so (sameb the_type m.item n.item) (int_eq m.threshold n.threshold) e))
-    ((signed_Decides m.threshold n.threshold).0 (second_so (sameb the_type m.item n.item) (int_eq m.threshold n.threshold) e))
+    ap₂ binary_slicer (same_item m.item n.item (first_so (sameb the_type m.item n.item) (int_eq m.threshold n.threshold)
+    e))
+    ((signed_Decides m.threshold n.threshold).0 (second_so (sameb the_type m.item n.item)
+    (int_eq m.threshold n.threshold) e))
 
 pub mute-same : (a b : Mute) → (sameb the_type a.item b.item && int_eq a.on b.on) ≡ true → mute_of a ≡ mute_of b
 mute-same a b e =
     ap₂ mute (same_item a.item b.item (first_so (sameb the_type a.item b.item) (int_eq a.on b.on) e))
     ((signed_Decides a.on b.on).0 (second_so (sameb the_type a.item b.item) (int_eq a.on b.on) e))
 
-pub scale-same : (a b : Scale) → (sameb the_type a.item b.item && (int_eq a.factor b.factor && nat_eq a.shift b.shift)) ≡ true → scale_of a ≡ scale_of b
+pub scale-same : (a b : Scale) → (sameb the_type a.item b.item && (int_eq a.factor b.factor && nat_eq a.shift b.shift))
+    ≡ true → scale_of a ≡ scale_of b
 scale-same a b e =
     let same = same_numbers a.item b.item a.factor b.factor (nat_eq a.shift b.shift) e in
     let item_same = same.0 in
     let factor_same = same.1 in
     λ i. scale (item_same i) (factor_same i) (same_number a.shift b.shift same.2 i)
 
-pub convert-same : (a b : Convert) → (sameb the_type a.item b.item && sameb the_type a.to b.to) ≡ true → convert_of a ≡ convert_of b
+pub convert-same : (a b : Convert) → (sameb the_type a.item b.item && sameb the_type a.to b.to) ≡ true → convert_of a
+    ≡ convert_of b
 convert-same a b e =
     let item_same = same_item a.item b.item (first_so (sameb the_type a.item b.item) (sameb the_type a.to b.to) e) in
     let to_same = same_item a.to b.to (second_so (sameb the_type a.item b.item) (sameb the_type a.to b.to) e) in
@@ -111,4 +124,5 @@ pub table_of-lawful : (b : Table) → IsLawful (table_of b)
 table_of-lawful b = table-lawful (type_of b.values) (numbers_of b.values) b.in_range
 
 pub table-same : (a b : Table) → items_eq a.values b.values ≡ true → table_of a ≡ table_of b
-table-same a b e = let same = (items_eq_decides a.values b.values (items_eq a.values b.values) refl).0 e in ap₂ table same.0 same.1
+table-same a b e = let same = (items_eq_decides a.values b.values (items_eq a.values b.values) refl).0 e in ap₂ table
+    same.0 same.1

@@ -13,4 +13,9 @@ made_of t gives = record (sync t t) { out = λ ts xs p n. gives (item (input xs 
 
 -- such a block has one input and one output
 pub made-single : {m : Meaning} (t : ItemType) (gives : ℤ → ℤ) → made_of t gives ≡ m → IsSingle m
-made-single t gives is = subst IsSingle is (record { in_least = refl; in_most = refl; out_least = refl; out_most = refl })
+made-single t gives is = subst IsSingle is (record {
+  in_least = refl;
+  in_most = refl;
+  out_least = refl;
+  out_most = refl;
+})

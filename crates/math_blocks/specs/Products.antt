@@ -29,13 +29,15 @@ regrouped_pos a b c = ap pos (grind arith)
 regrouped_last : (a b : ℕ) (z : ℤ) → pos a *ℤ (pos b *ℤ z) ≡ pos a *ℤ pos b *ℤ z
 regrouped_last a b (pos c) = regrouped_pos a b c
 regrouped_last a b (negsuc c) =
-    ap (λ y. pos a *ℤ y) (times_neg (pos b) (pos (suc c))) ∙ times_neg (pos a) (pos b *ℤ pos (suc c)) ∙ ap neg_ℤ (regrouped_pos a b (suc c))
+    ap (λ y. pos a *ℤ y) (times_neg (pos b) (pos (suc c))) ∙ times_neg (pos a) (pos b *ℤ pos (suc c)) ∙ ap neg_ℤ
+    (regrouped_pos a b (suc c))
     ∙ sym (times_neg (pos a *ℤ pos b) (pos (suc c)))
 
 regrouped_middle : (a : ℕ) (y z : ℤ) → pos a *ℤ (y *ℤ z) ≡ pos a *ℤ y *ℤ z
 regrouped_middle a (pos b) z = regrouped_last a b z
 regrouped_middle a (negsuc b) z =
-    ap (λ y. pos a *ℤ y) (neg_times (pos (suc b)) z) ∙ times_neg (pos a) (pos (suc b) *ℤ z) ∙ ap neg_ℤ (regrouped_last a (suc b) z)
+    ap (λ y. pos a *ℤ y) (neg_times (pos (suc b)) z) ∙ times_neg (pos a) (pos (suc b) *ℤ z) ∙ ap neg_ℤ
+    (regrouped_last a (suc b) z)
     ∙ sym (neg_times (pos a *ℤ pos (suc b)) z) ∙ ap (λ y. y *ℤ z) (sym (times_neg (pos a) (pos (suc b))))
 
 regrouped : (x y z : ℤ) → x *ℤ (y *ℤ z) ≡ x *ℤ y *ℤ z

@@ -5,7 +5,8 @@ use Rattle.kind_model.specs.Kernels.{divided}
 use Rattle.kind_model.specs.Math.{divided_by, quotient}
 use Rattle.math_blocks.specs.Joined.{AreJoined, itself}
 
-divided_by-push : (t : ItemType) (y : ℤ) (zs : List ℤ) (z : ℤ) → divided_by t y (zs ++ z ∷ []) ≡ divided t (divided_by t y zs) z
+divided_by-push : (t : ItemType) (y : ℤ) (zs : List ℤ) (z : ℤ) → divided_by t y (zs ++ z ∷ [])
+    ≡ divided t (divided_by t y zs) z
 divided_by-push t y [] z = refl
 divided_by-push t y (x ∷ zs) z = divided_by-push t (divided t y x) zs z
 

@@ -14,7 +14,8 @@ pub record IsBetween (low high z : ℤ) : Type 0 where
   pub above : low ≤ℤ z
   pub below : z ≤ℤ high
 
--- each item made of the one at its place and the number in force there, which is one from low to high, and v where none is set
+-- each item made of the one at its place and the number in force there, which is one from low to high, and v where none
+-- is set
 abbrev pub each_of : ItemType → ℤ → ℤ → ℤ → (ℤ → ℤ → ℤ) → Meaning
 each_of t low high v gives =
     record (sync t t) {
@@ -24,8 +25,14 @@ each_of t low high v gives =
     }
 
 -- such a block has one input and one output
-pub each-single : {m : Meaning} (t : ItemType) (low high v : ℤ) (gives : ℤ → ℤ → ℤ) → each_of t low high v gives ≡ m → IsSingle m
-each-single t low high v gives is = subst IsSingle is (record { in_least = refl; in_most = refl; out_least = refl; out_most = refl })
+pub each-single : {m : Meaning} (t : ItemType) (low high v : ℤ) (gives : ℤ → ℤ → ℤ) → each_of t low high v gives ≡ m
+    → IsSingle m
+each-single t low high v gives is = subst IsSingle is (record {
+  in_least = refl;
+  in_most = refl;
+  out_least = refl;
+  out_most = refl;
+})
 
 -- each of these settings sets a number from low to high
 abbrev pub SetBetween : ℤ → ℤ → List Held → Type 0

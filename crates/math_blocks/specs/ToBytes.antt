@@ -14,4 +14,9 @@ bytes_of t gives = record (sync t Byte) { out = λ ts xs p n. gives (item (input
 
 -- such a block has one input and one output
 pub bytes-single : {m : Meaning} (t : ItemType) (gives : ℤ → ℤ) → bytes_of t gives ≡ m → IsSingle m
-bytes-single t gives is = subst IsSingle is (record { in_least = refl; in_most = refl; out_least = refl; out_most = refl })
+bytes-single t gives is = subst IsSingle is (record {
+  in_least = refl;
+  in_most = refl;
+  out_least = refl;
+  out_most = refl;
+})

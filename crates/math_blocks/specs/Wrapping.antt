@@ -27,8 +27,10 @@ wrap_byte-add_right (negsuc a) (negsuc b) = grind (arith, ints)
 
 pub wrap-add_right : (t : ItemType) (a b : ℤ) → wrap t (a +ℤ wrap t b) ≡ wrap t (a +ℤ b)
 wrap-add_right Byte a b = wrap_byte-add_right a b
-wrap-add_right Short a b = wrap_short (a +ℤ wrap Short b) ∙ ap (λ (z : ℤ). int_wrap w16 (a +ℤ z)) (wrap_short b) ∙ int_wrap-add_right w16 a b ∙ sym (wrap_short (a +ℤ b))
-wrap-add_right Int a b = wrap_int (a +ℤ wrap Int b) ∙ ap (λ (z : ℤ). int_wrap w32 (a +ℤ z)) (wrap_int b) ∙ int_wrap-add_right w32 a b ∙ sym (wrap_int (a +ℤ b))
+wrap-add_right Short a b = wrap_short (a +ℤ wrap Short b) ∙ ap (λ (z : ℤ). int_wrap w16 (a +ℤ z)) (wrap_short b) ∙
+    int_wrap-add_right w16 a b ∙ sym (wrap_short (a +ℤ b))
+wrap-add_right Int a b = wrap_int (a +ℤ wrap Int b) ∙ ap (λ (z : ℤ). int_wrap w32 (a +ℤ z)) (wrap_int b) ∙
+    int_wrap-add_right w32 a b ∙ sym (wrap_int (a +ℤ b))
 
 -- a byte wraps as the signed number with its bits
 wrap_byte : (z : ℤ) → wrap Byte (int_wrap w8 z) ≡ wrap Byte z
@@ -45,10 +47,13 @@ wrap_byte-again (negsuc n) = grind (arith, nat_tests)
 pub wrap-mul_left : (t : ItemType) (a b : ℤ) → wrap t (wrap t a *ℤ b) ≡ wrap t (a *ℤ b)
 wrap-mul_left Byte a b =
     sym (wrap_byte (wrap Byte a *ℤ b))
-    ∙ ap (wrap Byte) (sym (int_wrap-mul_left w8 (wrap Byte a) b) ∙ ap (λ (z : ℤ). int_wrap w8 (z *ℤ b)) (wrap_byte-again a) ∙ int_wrap-mul_left w8 a b)
+    ∙ ap (wrap Byte) (sym (int_wrap-mul_left w8 (wrap Byte a) b) ∙ ap (λ (z : ℤ). int_wrap w8 (z *ℤ b))
+    (wrap_byte-again a) ∙ int_wrap-mul_left w8 a b)
     ∙ wrap_byte (a *ℤ b)
-wrap-mul_left Short a b = wrap_short (wrap Short a *ℤ b) ∙ ap (λ (z : ℤ). int_wrap w16 (z *ℤ b)) (wrap_short a) ∙ int_wrap-mul_left w16 a b ∙ sym (wrap_short (a *ℤ b))
-wrap-mul_left Int a b = wrap_int (wrap Int a *ℤ b) ∙ ap (λ (z : ℤ). int_wrap w32 (z *ℤ b)) (wrap_int a) ∙ int_wrap-mul_left w32 a b ∙ sym (wrap_int (a *ℤ b))
+wrap-mul_left Short a b = wrap_short (wrap Short a *ℤ b) ∙ ap (λ (z : ℤ). int_wrap w16 (z *ℤ b)) (wrap_short a) ∙
+    int_wrap-mul_left w16 a b ∙ sym (wrap_short (a *ℤ b))
+wrap-mul_left Int a b = wrap_int (wrap Int a *ℤ b) ∙ ap (λ (z : ℤ). int_wrap w32 (z *ℤ b)) (wrap_int a) ∙
+    int_wrap-mul_left w32 a b ∙ sym (wrap_int (a *ℤ b))
 
 -- an item is in its type's range already
 pub wrap_own : (t : ItemType) (z : ℤ) → IsItem t z → wrap t z ≡ z

@@ -6,8 +6,8 @@ use crate::per_item::{Makes, PerItem};
 use items::ItemType;
 use lane_kernels::{SimdLane, append_abs_wrap};
 
-/// Each item without its sign, wrapped to the items' type, as GNU Radio's `abs_xx`: the least short and the least int stay what they are. Bytes, which
-/// GNU Radio's block does not take, have no sign.
+/// Each item without its sign, wrapped to the items' type, as GNU Radio's `abs_xx`: the least short and the least int
+/// stay what they are. Bytes, which GNU Radio's block does not take, have no sign.
 pub type Abs = PerItem<Magnitude>;
 
 /// The wrapped distance of an item from 0.

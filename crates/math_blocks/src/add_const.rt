@@ -2,8 +2,8 @@
 use crate::constant::{Applies, Constant};
 use lane_kernels::{SimdLane, append_add_const_wrap};
 
-/// Each item plus the number in force at it, wrapped to the items' type, as GNU Radio's `add_const_xx`. Its parameter is in force until a setting
-/// replaces it.
+/// Each item plus the number in force at it, wrapped to the items' type, as GNU Radio's `add_const_xx`. Its parameter
+/// is in force until a setting replaces it.
 pub type AddConst = Constant<Plus>;
 
 /// The wrapped sum of an item and a constant.

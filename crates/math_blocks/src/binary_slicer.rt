@@ -9,7 +9,8 @@ use items::ItemType;
 use numbers::Number;
 use numbers::range::is_item;
 
-/// The byte 1 for each item that is at least the threshold, and 0 for each other. With a threshold of 0 it decides as GNU Radio's `binary_slicer_fb`.
+/// The byte 1 for each item that is at least the threshold, and 0 for each other. With a threshold of 0 it decides as
+/// GNU Radio's `binary_slicer_fb`.
 pub type BinarySlicer = ToBytes<AtLeast>;
 
 /// Whether an item is at least a threshold.

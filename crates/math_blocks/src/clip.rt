@@ -26,8 +26,8 @@ pub struct Nearest {
 impl Clip {
     ghost use Rattle.math_blocks.specs.Kinds.{clip_of};
 
-    /// The block with this range, both of its ends in it and in the range of the items' type. `BadParameter` names `low` where that is outside the
-    /// type's range, and else `high` where that is, or where it is less than `low`.
+    /// The block with this range, both of its ends in it and in the range of the items' type. `BadParameter` names
+    /// `low` where that is outside the type's range, and else `high` where that is, or where it is less than `low`.
     pub fn new(item: ItemType, low: i64, high: i64) -> Result<Clip, ParamFault>
         ensures meaning { IfOk result (λ block. clip_of block.makes ≡ clip item low high) }
         ensures range { IsOk result ↔ (IsItem item low × IsItem item high × (low ≤ℤ high)) }

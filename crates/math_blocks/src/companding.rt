@@ -6,11 +6,13 @@ use crate::to_bytes::{MakesByte, ToBytes, int_of};
 use items::ItemType;
 use numbers::Number;
 
-/// The byte of each item by the mu-law, as GNU Radio's `ulaw_encode_sb`, which takes shorts. An int outside their range gives the byte of the nearest.
+/// The byte of each item by the mu-law, as GNU Radio's `ulaw_encode_sb`, which takes shorts. An int outside their range
+/// gives the byte of the nearest.
 pub type UlawEncode = ToBytes<MuLaw>;
 
-/// The byte of each item by the A-law, as GNU Radio's `alaw_encode_sb`, which takes shorts. An int outside their range gives the byte of the nearest. For
-/// the numbers from -7 to -1, which are next to 0, GNU Radio's block gives the byte of -248; here they have that of -8.
+/// The byte of each item by the A-law, as GNU Radio's `alaw_encode_sb`, which takes shorts. An int outside their range
+/// gives the byte of the nearest. For the numbers from -7 to -1, which are next to 0, GNU Radio's block gives the byte
+/// of -248; here they have that of -8.
 pub type AlawEncode = ToBytes<ALaw>;
 
 /// The mu-law.

@@ -26,7 +26,8 @@ pub trait Applies: Eq + Drop {
     /// Appends what is made of each item, where the capacity has room.
     fn append<T: SimdLane>(items: &[T], constant: T, out: &mut Vec<T>)
         requires room { vec_len out.old + length items.now ≤ vec_capacity out.old }
-        ensures items { map T.number out.new.items ≡ map T.number out.old.items ++ listed (length (map T.number items.now))
+        ensures items { map T.number out.new.items ≡ map T.number out.old.items
+            ++ listed (length (map T.number items.now))
             (λ k. gives T.kind (T.number constant) (item (map T.number items.now) k)) }
         ensures len { vec_len out.new ≡ vec_len out.old + length items.now }
         ensures capacity { vec_capacity out.old ≤ vec_capacity out.new };

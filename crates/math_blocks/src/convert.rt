@@ -10,8 +10,8 @@ use lane_kernels::{NarrowsTo, SimdLane, WidensTo, narrow, widen};
 use numbers::Number;
 use numbers::vectors::append_copies;
 
-/// Each item as the item of another type with the same lowest bits; a number that the other type can hold stays what it is. As GNU Radio's
-/// `char_to_short` and its kin, without their scaling.
+/// Each item as the item of another type with the same lowest bits; a number that the other type can hold stays what it
+/// is. As GNU Radio's `char_to_short` and its kin, without their scaling.
 #[derive(Debug, Drop, PartialEq, Eq)]
 pub struct Convert {
     item: ItemType,

@@ -2,9 +2,10 @@
 use crate::joined::{Joined, Joins, append_same};
 use lane_kernels::{SimdLane, append_divide, divide_into};
 
-/// The item of the first of its 1 to 16 inputs over those of the others in turn, each quotient rounded toward 0, as GNU Radio's `divide_xx`, which takes
-/// no bytes. What is divided by 0 gives 0, and the least number of the items' type over -1 is itself, which is wrapped; GNU Radio's program is ended
-/// by the first, and by the second where items are ints.
+/// The item of the first of its 1 to 16 inputs over those of the others in turn, each quotient rounded toward 0, as GNU
+/// Radio's `divide_xx`, which takes no bytes. What is divided by 0 gives 0, and the least number of the items' type
+/// over -1 is itself, which is wrapped; GNU Radio's program is ended by the first, and by the second where items are
+/// ints.
 pub type Divide = Joined<Quotient>;
 
 /// The wrapped quotient of items.

@@ -2,8 +2,9 @@
 use crate::constant::{Applies, Constant};
 use lane_kernels::{SimdLane, append_divide_const};
 
-/// Each item over the number in force at it, rounded toward 0: 0 where that number is 0, and the least number of the items' type over -1 is itself,
-/// which is wrapped. Its parameter is in force until a setting replaces it. GNU Radio has no block like it.
+/// Each item over the number in force at it, rounded toward 0: 0 where that number is 0, and the least number of the
+/// items' type over -1 is itself, which is wrapped. Its parameter is in force until a setting replaces it. GNU Radio
+/// has no block like it.
 pub type DivideConst = Constant<Over>;
 
 /// The wrapped quotient of an item and a constant.

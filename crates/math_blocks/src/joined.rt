@@ -186,20 +186,22 @@ fn append_only<T: SimdLane, J: Joins>(items: &[T], out: &mut Vec<T>)
 /// Appends the items as they are, where the capacity has room.
 pub(crate) fn append_same<T: SimdLane>(items: &[T], out: &mut Vec<T>)
     requires { vec_len out.old + length items.now ≤ vec_capacity out.old }
-    ensures items { map T.number out.new.items ≡ map T.number out.old.items ++ listed (length items.now) (λ k. item (map T.number items.now) k) }
+    ensures items { map T.number out.new.items ≡ map T.number out.old.items
+        ++ listed (length items.now) (λ k. item (map T.number items.now) k) }
     ensures capacity { vec_capacity out.old ≤ vec_capacity out.new }
 {
     append(out, items);
 }
 
-/// Writes what is made of the items of the first windows, two where there are two, into an empty `out` with room for it, and answers how
-/// many windows these are.
+/// Writes what is made of the items of the first windows, two where there are two, into an empty `out` with room for
+/// it, and answers how many windows these are.
 fn join_first<J: Joins>(windows: &[Items], count: usize, out: &mut Items) -> usize
     requires { CanJoin count windows.now out.old }
     ensures there { result ≤ length windows.now }
     ensures several { result < length windows.now → 2 ≤ result }
     ensures item_type { type_of out.new ≡ type_of out.old }
-    ensures numbers { numbers_of out.new ≡ listed count (λ k. J.joins (type_of out.old) (items_at (map numbers_of (take result windows.now)) k)) }
+    ensures numbers { numbers_of out.new ≡ listed count (λ k. J.joins (type_of out.old)
+        (items_at (map numbers_of (take result windows.now)) k)) }
     ensures room { spare_of out.old ≤ spare_of out.new + length (numbers_of out.new) }
 {
     let first = &windows[0];
@@ -216,7 +218,8 @@ fn join_first<J: Joins>(windows: &[Items], count: usize, out: &mut Items) -> usi
 fn join_windows<J: Joins>(windows: &[Items], count: usize, out: &mut Items)
     requires { CanJoin count windows.now out.old }
     ensures item_type { type_of out.new ≡ type_of out.old }
-    ensures numbers { numbers_of out.new ≡ listed count (λ k. J.joins (type_of out.old) (items_at (map numbers_of windows.now) k)) }
+    ensures numbers { numbers_of out.new ≡ listed count (λ k. J.joins (type_of out.old)
+        (items_at (map numbers_of windows.now) k)) }
     ensures room { spare_of out.old ≤ spare_of out.new + length (numbers_of out.new) }
 {
     let begun = join_first::<J>(windows, count, out);

@@ -13,16 +13,20 @@ pub type And = Joined<Bitwise<AndBits>>;
 /// The bitwise or of the items of its 1 to 16 inputs, as GNU Radio's `or_xx`.
 pub type Or = Joined<Bitwise<OrBits>>;
 
-/// The bitwise exclusive or of the items of its 1 to 16 inputs, as GNU Radio's `xor_xx`: the bits that an odd number of items have.
+/// The bitwise exclusive or of the items of its 1 to 16 inputs, as GNU Radio's `xor_xx`: the bits that an odd number of
+/// items have.
 pub type Xor = Joined<Bitwise<XorBits>>;
 
-/// The bitwise and of each item and the number in force at it, as GNU Radio's `and_const_xx`. Its parameter is in force until a setting replaces it.
+/// The bitwise and of each item and the number in force at it, as GNU Radio's `and_const_xx`. Its parameter is in force
+/// until a setting replaces it.
 pub type AndConst = Constant<Bitwise<AndBits>>;
 
-/// The bitwise or of each item and the number in force at it. GNU Radio has no block like it. Its parameter is in force until a setting replaces it.
+/// The bitwise or of each item and the number in force at it. GNU Radio has no block like it. Its parameter is in force
+/// until a setting replaces it.
 pub type OrConst = Constant<Bitwise<OrBits>>;
 
-/// The bitwise exclusive or of each item and the number in force at it. GNU Radio has no block like it. Its parameter is in force until a setting replaces it.
+/// The bitwise exclusive or of each item and the number in force at it. GNU Radio has no block like it. Its parameter
+/// is in force until a setting replaces it.
 pub type XorConst = Constant<Bitwise<XorBits>>;
 
 /// The operation on the bits of items, or of an item and a constant.

@@ -22,15 +22,16 @@ pub struct MapBb {
 impl MapBb {
     ghost use Rattle.math_blocks.specs.Kinds.{IsTable, map_bb_of};
 
-    /// The block with a copy of this table. `BadParameter` where it has more than 256 numbers or one outside 0 to 255, before any memory is asked
-    /// for; `Memory` only where the allocator refuses the copy.
+    /// The block with a copy of this table. `BadParameter` where it has more than 256 numbers or one outside 0 to 255,
+    /// before any memory is asked for; `Memory` only where the allocator refuses the copy.
     pub fn new(alloc: Global, table: &[i64]) -> Result<MapBb, ParamFault>
         ensures meaning { IfOk result (λ block. map_bb_of block ≡ map_bb table.now) }
         ensures range { OnOk result (IsTable table.now) }
         ensures bad { IsErrOf result (ParamFault.BadParameter Parameter.Map) ↔ (¬ IsTable table.now) }
         ensures nothing { table.now ≡ [] → IsOk result }
         ensures memory { IsErrOf result ParamFault.Memory → IsTable table.now }
-        ensures err { IfErr result (λ fault. (fault ≡ ParamFault.BadParameter Parameter.Map) ⊎ (fault ≡ ParamFault.Memory)) }
+        ensures err { IfErr result (λ fault. (fault ≡ ParamFault.BadParameter Parameter.Map)
+            ⊎ (fault ≡ ParamFault.Memory)) }
     {
         if table.len() > 256 || !table.iter().all(|n| 0 <= *n && *n <= 255) {
             return Err(ParamFault::BadParameter(Parameter::Map));
@@ -62,7 +63,8 @@ fn entry_of_all(table: &[u8], byte: u8) -> u8
 // Each byte through a table. It is passed as a slice, so that no write can change where it is.
 fn look_up(table: &[u8], items: &[u8], out: &mut [u8])
     requires { length out.old ≡ length items.now }
-    ensures { map pos out.new ≡ listed (length out.old) (λ k. looked_up (map pos table.now) (item (map pos items.now) k)) }
+    ensures { map pos out.new ≡ listed (length out.old) (λ k. looked_up (map pos table.now)
+        (item (map pos items.now) k)) }
 {
     for k in 0..out.len() {
         out[k] = entry(table, items[k]);
@@ -73,7 +75,8 @@ fn look_up(table: &[u8], items: &[u8], out: &mut [u8])
 fn look_up_all(table: &[u8], items: &[u8], out: &mut [u8])
     requires whole { length table.now ≡ 256 }
     requires same_length { length out.old ≡ length items.now }
-    ensures { map pos out.new ≡ listed (length out.old) (λ k. looked_up (map pos table.now) (item (map pos items.now) k)) }
+    ensures { map pos out.new ≡ listed (length out.old) (λ k. looked_up (map pos table.now)
+        (item (map pos items.now) k)) }
 {
     for k in 0..out.len() {
         out[k] = entry_of_all(table, items[k]);

@@ -9,8 +9,8 @@ use items::{ItemType, Items};
 use lane_kernels::SimdLane;
 use numbers::vectors::are_in_range;
 
-/// For each item the sum of it and those before it, `length` in all, wrapped to the items' type. As GNU Radio's `moving_average_xx` without its
-/// scale.
+/// For each item the sum of it and those before it, `length` in all, wrapped to the items' type. As GNU Radio's
+/// `moving_average_xx` without its scale.
 #[derive(Debug, Drop, PartialEq, Eq)]
 pub struct MovingSum {
     item: ItemType,

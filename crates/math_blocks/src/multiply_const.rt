@@ -2,8 +2,8 @@
 use crate::constant::{Applies, Constant};
 use lane_kernels::{SimdLane, append_mul_wrap};
 
-/// Each item times the number in force at it, wrapped to the items' type, as GNU Radio's `multiply_const_xx`. Its parameter is in force until a
-/// setting replaces it.
+/// Each item times the number in force at it, wrapped to the items' type, as GNU Radio's `multiply_const_xx`. Its
+/// parameter is in force until a setting replaces it.
 pub type MultiplyConst = Constant<Times>;
 
 /// The wrapped product of an item and a constant.

@@ -9,7 +9,8 @@ use items::{ItemType, Items};
 use lane_kernels::SimdLane;
 use numbers::vectors::{append, append_copies};
 
-/// Zeros while 1 is in force, and each item while 0 is, as GNU Radio's `mute_xx`. Its parameter `on` is in force until a setting replaces it.
+/// Zeros while 1 is in force, and each item while 0 is, as GNU Radio's `mute_xx`. Its parameter `on` is in force until
+/// a setting replaces it.
 #[derive(Debug, Drop, PartialEq, Eq)]
 pub struct Mute {
     item: ItemType,

@@ -31,7 +31,8 @@ pub trait Makes: Eq + Drop {
     fn append<T: SimdLane>(&self, items: &[T], out: &mut Vec<T>)
         requires same_type { takes self.now ≡ T.kind }
         requires room { vec_len out.old + length items.now ≤ vec_capacity out.old }
-        ensures items { map T.number out.new.items ≡ map T.number out.old.items ++ listed (length (map T.number items.now))
+        ensures items { map T.number out.new.items ≡ map T.number out.old.items
+            ++ listed (length (map T.number items.now))
             (λ k. gives self.now (item (map T.number items.now) k)) }
         ensures capacity { vec_capacity out.old ≤ vec_capacity out.new };
 

@@ -12,8 +12,9 @@ use block_trait::{Block, ByPace, Held, Shape, ports};
 use items::{ItemType, Items};
 use numbers::Number;
 
-/// The item of its first input from where the second has another number than 0, until the next such place, and 0 before the first one. As GNU Radio's
-/// `sample_and_hold`, whose second input has bytes: `convert` makes items of the type of them.
+/// The item of its first input from where the second has another number than 0, until the next such place, and 0 before
+/// the first one. As GNU Radio's `sample_and_hold`, whose second input has bytes: `convert` makes items of the type of
+/// them.
 #[derive(Debug, Drop, PartialEq, Eq)]
 pub struct SampleAndHold {
     item: ItemType,
@@ -54,7 +55,8 @@ fn hold<T: Number>(held: T, items: &[T], control: &[T], out: &mut Vec<T>) -> T
     requires room { length items.now ≤ vec_capacity out.old - vec_len out.old }
     ensures items { map T.number out.new.items ≡ listed (length items.now)
         (λ k. held_from (T.number held) (map T.number items.now) (map T.number control.now) (suc k)) }
-    ensures last { T.number result ≡ held_from (T.number held) (map T.number items.now) (map T.number control.now) (length items.now) }
+    ensures last { T.number result ≡ held_from (T.number held) (map T.number items.now) (map T.number control.now)
+        (length items.now) }
     ensures len { vec_len out.new ≡ length items.now }
     ensures capacity { vec_capacity out.new ≡ vec_capacity out.old }
 {
@@ -74,7 +76,8 @@ fn hold_bits<T: Number>(bits: u64, items: &[T], control: &[T], out: &mut Vec<T>)
     requires room { length (map T.number items.now) ≤ vec_capacity out.old - vec_len out.old }
     ensures items { map T.number out.new.items ≡ listed (length (map T.number items.now))
         (λ k. held_from (wrap T.kind (pos bits)) (map T.number items.now) (map T.number control.now) (suc k)) }
-    ensures last { result ≡ held_from (wrap T.kind (pos bits)) (map T.number items.now) (map T.number control.now) (length (map T.number items.now)) }
+    ensures last { result ≡ held_from (wrap T.kind (pos bits)) (map T.number items.now) (map T.number control.now)
+        (length (map T.number items.now)) }
     ensures len { vec_len out.new ≡ length (map T.number items.now) }
     ensures capacity { vec_capacity out.new ≡ vec_capacity out.old }
 {
@@ -92,7 +95,8 @@ fn hold_items(bits: u64, items: &Items, control: &Items, out: &mut Items) -> i64
     ensures item_type { type_of out.new ≡ type_of out.old }
     ensures numbers { numbers_of out.new ≡ listed (length (numbers_of items.now))
         (λ k. held_from (wrap (type_of out.old) (pos bits)) (numbers_of items.now) (numbers_of control.now) (suc k)) }
-    ensures last { result ≡ held_from (wrap (type_of out.old) (pos bits)) (numbers_of items.now) (numbers_of control.now) (length (numbers_of items.now)) }
+    ensures last { result ≡ held_from (wrap (type_of out.old) (pos bits)) (numbers_of items.now)
+        (numbers_of control.now) (length (numbers_of items.now)) }
     ensures room { spare_of out.old ≤ spare_of out.new + length (numbers_of out.new) }
 {
     match (items, control, out) {

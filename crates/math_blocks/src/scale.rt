@@ -12,8 +12,9 @@ use lane_kernels::{SimdLane, append_scale_sat};
 use numbers::Number;
 use numbers::range::{greatest, is_item, least};
 
-/// Each item times the factor in force at it over `2 ^ shift`, rounded to the nearest whole number (ties round up) and clamped to the range of the
-/// items' type. Its parameter `factor` is in force until a setting replaces it. GNU Radio has no block like it.
+/// Each item times the factor in force at it over `2 ^ shift`, rounded to the nearest whole number (ties round up) and
+/// clamped to the range of the items' type. Its parameter `factor` is in force until a setting replaces it. GNU Radio
+/// has no block like it.
 #[derive(Debug, Drop, PartialEq, Eq)]
 pub struct Scale {
     item: ItemType,
@@ -26,12 +27,14 @@ pub struct Scale {
 impl Scale {
     ghost use Rattle.math_blocks.specs.Kinds.{scale_of};
 
-    /// The block with a factor of -32,768 to 32,767 and a shift of 0 to 31; `BadParameter` names the first that is outside, the factor first.
+    /// The block with a factor of -32,768 to 32,767 and a shift of 0 to 31; `BadParameter` names the first that is
+    /// outside, the factor first.
     pub fn new(item: ItemType, factor: i64, shift: u32) -> Result<Scale, ParamFault>
         ensures meaning { IfOk result (λ block. scale_of block ≡ scale item factor shift) }
         ensures range { IsOk result ↔ (IsItem types.Short factor × (shift ≤ 31)) }
         ensures bad_factor { IsErrOf result (ParamFault.BadParameter Parameter.Factor) ↔ (¬ IsItem types.Short factor) }
-        ensures bad_shift { IsErrOf result (ParamFault.BadParameter Parameter.Shift) ↔ (IsItem types.Short factor × (31 < shift)) }
+        ensures bad_shift { IsErrOf result (ParamFault.BadParameter Parameter.Shift)
+            ↔ (IsItem types.Short factor × (31 < shift)) }
     {
         if !is_item(ItemType::Short, factor) {
             return Err(ParamFault::BadParameter(Parameter::Factor));

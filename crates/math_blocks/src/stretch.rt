@@ -36,7 +36,8 @@ pub(crate) trait EachItem {
         requires in_range { IsBetween (low self.now) (high self.now) number }
         requires room { vec_len out.old + length items.now ≤ vec_capacity out.old }
         ensures items { map T.number out.new.items
-            ≡ map T.number out.old.items ++ listed (length items.now) (λ k. gives self.now number (item (map T.number items.now) k)) }
+            ≡ map T.number out.old.items ++ listed (length items.now) (λ k. gives self.now number
+            (item (map T.number items.now) k)) }
         ensures len { vec_len out.new ≡ vec_len out.old + length items.now }
         ensures capacity { vec_capacity out.old ≤ vec_capacity out.new };
 
@@ -65,8 +66,8 @@ fn end_of(held: &[Held], i: usize, to: u64) -> u64
     }
 }
 
-// Appends what the block makes of each item to an empty `out` with room for it: one run for each setting that is in force. The items are those of
-// their stream from item `from` on.
+// Appends what the block makes of each item to an empty `out` with room for it: one run for each setting that is in
+// force. The items are those of their stream from item `from` on.
 fn run_stretches<T: SimdLane, B: EachItem>(
     block: &B,
     items: &[T],
@@ -121,8 +122,10 @@ fn run_items<B: EachItem>(block: &B, items: &Items, held: &[Held], from: u64, ou
 
 /// What `fill` writes, of a block that makes each item of one item, by a number that may be set.
 pub(crate) fn fill_each<B: EachItem>(block: &B, batch: &Batch<'_>, out: &mut Items)
-    requires { CanFill (each_of (B.takes block.now) (B.low block.now) (B.high block.now) (B.own block.now) (B.gives block.now)) batch.now out.old }
-    ensures items { HasFilled (each_of (B.takes block.now) (B.low block.now) (B.high block.now) (B.own block.now) (B.gives block.now)) batch.now out.new }
+    requires { CanFill (each_of (B.takes block.now) (B.low block.now) (B.high block.now) (B.own block.now)
+        (B.gives block.now)) batch.now out.old }
+    ensures items { HasFilled (each_of (B.takes block.now) (B.low block.now) (B.high block.now) (B.own block.now)
+        (B.gives block.now)) batch.now out.new }
     ensures item_type { type_of out.new ≡ type_of out.old }
     ensures room { spare_of out.old ≤ spare_of out.new + length (numbers_of out.new) }
 {

@@ -3,8 +3,8 @@ use crate::joined::{Joined, Joins};
 use lane_kernels::{SimdLane, append_mul_wrap, append_sub_wrap, sub_wrap_into};
 use numbers::Number;
 
-/// The item of the first of its 1 to 16 inputs less those of the others, and of one input its negative, wrapped to their type, as GNU Radio's `sub_xx`,
-/// which gives the items of one input as they are, and takes no bytes.
+/// The item of the first of its 1 to 16 inputs less those of the others, and of one input its negative, wrapped to
+/// their type, as GNU Radio's `sub_xx`, which gives the items of one input as they are, and takes no bytes.
 pub type Sub = Joined<Difference>;
 
 /// The wrapped difference of items.

@@ -14,8 +14,8 @@ use numbers::Number;
 use numbers::vectors::append_copies;
 use std::alloc::Global;
 
-/// For each byte the number at its place of a list of up to 256, and the last of them for a byte behind their end. As GNU Radio's `chunks_to_symbols` of
-/// one dimension, which reads outside its list there.
+/// For each byte the number at its place of a list of up to 256, and the last of them for a byte behind their end. As
+/// GNU Radio's `chunks_to_symbols` of one dimension, which reads outside its list there.
 #[derive(Debug, Drop, PartialEq, Eq)]
 pub struct Table {
     values: Items,
@@ -26,14 +26,16 @@ pub struct Table {
 impl Table {
     ghost use Rattle.math_blocks.specs.Kinds.{AreValues, table_of};
 
-    /// The block with a copy of these numbers. `BadParameter` where there is none, where there are more than 256, or where one lies outside the range of
-    /// `to`, before any memory is asked for; `Memory` only where the allocator refuses the copy.
+    /// The block with a copy of these numbers. `BadParameter` where there is none, where there are more than 256, or
+    /// where one lies outside the range of `to`, before any memory is asked for; `Memory` only where the allocator
+    /// refuses the copy.
     pub fn new(alloc: Global, to: ItemType, values: &[i64]) -> Result<Table, ParamFault>
         ensures meaning { IfOk result (λ block. table_of block ≡ table to values.now) }
         ensures range { OnOk result (AreValues to values.now) }
         ensures bad { IsErrOf result (ParamFault.BadParameter Parameter.Values) ↔ (¬ AreValues to values.now) }
         ensures memory { IsErrOf result ParamFault.Memory → AreValues to values.now }
-        ensures err { IfErr result (λ fault. (fault ≡ ParamFault.BadParameter Parameter.Values) ⊎ (fault ≡ ParamFault.Memory)) }
+        ensures err { IfErr result (λ fault. (fault ≡ ParamFault.BadParameter Parameter.Values)
+            ⊎ (fault ≡ ParamFault.Memory)) }
     {
         if values.is_empty() || values.len() > 256 {
             return Err(ParamFault::BadParameter(Parameter::Values));
@@ -57,11 +59,13 @@ fn number_of<T: Number>(values: &[T], byte: u8) -> T
     values[(byte as usize).min(values.len() - 1)]
 }
 
-// Writes for each byte its number over `out`. The numbers are passed as a slice, so that no write can change where they are.
+// Writes for each byte its number over `out`. The numbers are passed as a slice, so that no write can change where they
+// are.
 fn write_numbers<T: Number>(values: &[T], items: &[u8], out: &mut [T])
     requires some { 1 ≤ length values.now }
     requires same_length { length out.old ≡ length items.now }
-    ensures { map T.number out.new ≡ listed (length out.old) (λ k. number_for (map T.number values.now) (item (map pos items.now) k)) }
+    ensures { map T.number out.new ≡ listed (length out.old) (λ k. number_for (map T.number values.now)
+        (item (map pos items.now) k)) }
 {
     for k in 0..out.len() {
         out[k] = number_of(values, items[k]);
@@ -90,7 +94,8 @@ fn give_numbers(values: &Items, items: &Items, out: &mut Items)
     requires room { length (numbers_of items.now) ≤ spare_of out.old }
     ensures item_type { type_of out.new ≡ type_of out.old }
     ensures numbers { numbers_of out.new
-        ≡ listed (length (numbers_of items.now)) (λ k. number_for (numbers_of values.now) (item (numbers_of items.now) k)) }
+        ≡ listed (length (numbers_of items.now)) (λ k. number_for (numbers_of values.now)
+        (item (numbers_of items.now) k)) }
     ensures room { spare_of out.old ≤ spare_of out.new + length (numbers_of out.new) }
 {
     match (values, items, out) {

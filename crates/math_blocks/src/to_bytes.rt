@@ -70,7 +70,8 @@ fn write_bytes<T: Number, M: MakesByte>(makes: &M, items: &[T], out: &mut [u8])
 fn append_bytes<T: Number, M: MakesByte>(makes: &M, items: &[T], out: &mut Vec<u8>)
     requires empty { map pos out.old.items ≡ [] }
     requires room { length items.now ≤ vec_capacity out.old - vec_len out.old }
-    ensures items { map pos out.new.items ≡ listed (length items.now) (λ k. M.gives makes.now (item (map T.number items.now) k)) }
+    ensures items { map pos out.new.items ≡ listed (length items.now)
+        (λ k. M.gives makes.now (item (map T.number items.now) k)) }
     ensures capacity { vec_capacity out.old ≤ vec_capacity out.new }
 {
     append_copies(out, items.len(), 0);
@@ -83,7 +84,8 @@ fn give_bytes<M: MakesByte>(makes: &M, items: &Items, out: &mut Items)
     requires empty { numbers_of out.old ≡ [] }
     requires room { length (numbers_of items.now) ≤ spare_of out.old }
     ensures item_type { type_of out.new ≡ type_of out.old }
-    ensures numbers { numbers_of out.new ≡ listed (length (numbers_of items.now)) (λ k. M.gives makes.now (item (numbers_of items.now) k)) }
+    ensures numbers { numbers_of out.new ≡ listed (length (numbers_of items.now))
+        (λ k. M.gives makes.now (item (numbers_of items.now) k)) }
     ensures room { spare_of out.old ≤ spare_of out.new + length (numbers_of out.new) }
 {
     match (items, out) {

@@ -38,7 +38,8 @@ text_of (Joined b) = Some (codes "the block is joined already")
 text_of (NotJoined b) = Some (codes "the block is joined to no reader of items")
 text_of (CutItem b) = Some (codes "the input ends within an item")
 text_of (BadMark b line) = Some (codes "line " ++ decimal line ++ codes " of the marks is no mark")
-text_of (MarkPlace b line) = Some (codes "the mark in line " ++ decimal line ++ codes " is on no item that it may be on")
+text_of (MarkPlace b line) = Some (codes "the mark in line " ++ decimal line
+    ++ codes " is on no item that it may be on")
 text_of Memory = Some (codes "out of memory")
 text_of _ = None
 
@@ -47,7 +48,8 @@ abbrev pub of_plant : BlockId → PlantFault → PipelineFault
 of_plant b plant.Memory = Memory
 of_plant b fault = Plant b fault
 
--- a fault of a source's readers: a read of one failed, what that of items gave ends within an item, what that of marks gave is refused, or the plant refuses what they gave
+-- a fault of a source's readers: a read of one failed, what that of items gave ends within an item, what that of marks
+-- gave is refused, or the plant refuses what they gave
 abbrev pub IsOfReader : {R : Type 0} → (R → Option (List ℕ)) → BlockId → InputState R → PipelineFault → Type 0
 IsOfReader remaining b i Memory = ⊤
 IsOfReader remaining b i (Plant c fault) = c ≡ b
@@ -113,7 +115,8 @@ IsOfEnd remaining b ends.Open fault = ⊥
 -- memory ran out, or it is the fault of what a block is joined to
 pub data IsFaultOf {R W : Type 0} (remaining : R → Option (List ℕ)) (es : List (End R W)) : PipelineFault → Type 0 where
   NoMemory : IsFaultOf remaining es Memory
-  OfEnd : (b : BlockId) (fault : PipelineFault) → IsOfEnd remaining b (end_at es b.0) fault → IsFaultOf remaining es fault
+  OfEnd : (b : BlockId) (fault : PipelineFault) → IsOfEnd remaining b (end_at es b.0) fault
+      → IsFaultOf remaining es fault
 
 -- the reply of the machine that a result tells of; none where memory ran out
 abbrev pub told_reply : {A : Type 0} → (A → Reply) → Result A PipelineFault → Option Reply

@@ -25,7 +25,13 @@ sink_type_of net b =
 -- a block is joined to a reader of which nothing was read, and has no marks
 abbrev pub JoinsReader : {R W : Type 0} → Network → ℕ → ByteOrder → R → List (End R W) → List (End R W) → Type 0
 JoinsReader net b order reader es es' =
-    es' ≡ slice_set es b (ends.Input (record { reader = reader; has_failed = false; decoder = record { item_type = (node_at net b).meaning.outputs.item; order = order; cut = [] }; marks = None; is_ended = false }))
+    es' ≡ slice_set es b (ends.Input (record {
+      reader = reader;
+      has_failed = false;
+      decoder = record { item_type = (node_at net b).meaning.outputs.item; order = order; cut = [] };
+      marks = None;
+      is_ended = false;
+    }))
 
 -- the items of a reader, which are this part of a whole tape, are marked by another, of which nothing was read
 pub record JoinsMarks {R W : Type 0} (b : ℕ) (part : TapePart) (reader : R) (es es' : List (End R W)) : Type 0 where
@@ -53,7 +59,8 @@ IsUnread ends.Open = ⊤
 IsUnread (ends.Output o) = ⊤
 
 -- it is joined to writers of this part of a whole stream
-pub record JoinsWriters {R W : Type 0} (net : Network) (b : ℕ) (part : StreamPart) (order : ByteOrder) (items tags : Option W) (es es' : List (End R W)) : Type 0 where
+pub record JoinsWriters {R W : Type 0} (net : Network) (b : ℕ) (part : StreamPart) (order : ByteOrder)
+    (items tags : Option W) (es es' : List (End R W)) : Type 0 where
   pub output : Output W
   pub joined : es' ≡ slice_set es b (ends.Output output)
   pub order_is : output.order ≡ order

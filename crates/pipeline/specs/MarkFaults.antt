@@ -7,10 +7,12 @@ use Rattle.pipeline.specs.declared.fault.PipelineFault.{PipelineFault}
 use Rattle.pipeline.specs.declared.fault.PipelineFault.TheVariants.{BadMark, MarkPlace}
 use Rattle.pipeline.specs.Marks.{HasTold, Marking, Rise, last_item}
 
--- of these bytes, all that the reader gave, the first lines say these marks, in the order of their items, and the line below them says this, where it is a mark:
--- whatever bytes follow, of which there are none where the reader has no more
-pub record Stands {R : Type 0} (remaining : R → Option (List ℕ)) (m : Marking R) (bytes : List ℕ) (above : List Mark) (said : Option Mark) : Type 0 where
-  pub lines : (more : List ℕ) → (m.is_over ≡ true → more ≡ []) → (below : List (Option Mark)) × (marks_said (bytes ++ more) ≡ map Some above ++ said ∷ below)
+-- of these bytes, all that the reader gave, the first lines say these marks, in the order of their items, and the line
+-- below them says this, where it is a mark: whatever bytes follow, of which there are none where the reader has no more
+pub record Stands {R : Type 0} (remaining : R → Option (List ℕ)) (m : Marking R) (bytes : List ℕ) (above : List Mark)
+    (said : Option Mark) : Type 0 where
+  pub lines : (more : List ℕ) → (m.is_over ≡ true → more ≡ []) → (below : List (Option Mark))
+      × (marks_said (bytes ++ more) ≡ map Some above ++ said ∷ below)
   pub at_end : m.is_over ≡ true → IsAtEnd (remaining m.reader)
   pub rise : Rise 0 above
 
@@ -19,11 +21,13 @@ abbrev pub Wrong : Type 1
 Wrong = List Mark → Option Mark → Type 0
 
 -- the reader was read, and of all that it gave line n, from 1, is the first that is wrong
-pub record IsFirst {R : Type 0} (remaining : R → Option (List ℕ)) (old new : Marking R) (wrong : Wrong) (n : ℕ) : Type 0 where
-  pub bytes : List ℕ
-  pub read : Consumes (remaining old.reader) (remaining new.reader) bytes
-  pub line : (before : List ℕ) (given : List Mark) → HasTold remaining old before given →
-      (above : List Mark) × (said : Option Mark) × Stands remaining new (before ++ bytes) above said × (n ≡ suc (length above)) × wrong above said
+pub record IsFirst {R : Type 0} (remaining : R → Option (List ℕ)) (old new : Marking R) (wrong : Wrong) (n : ℕ) : Type 0
+  where
+    pub bytes : List ℕ
+    pub read : Consumes (remaining old.reader) (remaining new.reader) bytes
+    pub line : (before : List ℕ) (given : List Mark) → HasTold remaining old before given →
+        (above : List Mark) × (said : Option Mark) × Stands remaining new (before ++ bytes) above said
+        × (n ≡ suc (length above)) × wrong above said
 
 -- it is no mark
 abbrev pub IsNone : Wrong
@@ -35,7 +39,8 @@ IsOut Barred above None = ⊥
 IsOut Barred above (Some mark) = (mark.offset < last_item 0 above) ⊎ Barred mark
 
 -- a refusal names the first line that is wrong
-abbrev pub NamesFirst : {R : Type 0} → (R → Option (List ℕ)) → (Mark → Type 0) → (old new : Marking R) → PipelineFault → Type 0
+abbrev pub NamesFirst : {R : Type 0} → (R → Option (List ℕ)) → (Mark → Type 0) → (old new : Marking R) → PipelineFault
+    → Type 0
 NamesFirst remaining Barred old new (BadMark b n) = IsFirst remaining old new IsNone n
 NamesFirst remaining Barred old new (MarkPlace b n) = IsFirst remaining old new (IsOut Barred) n
 NamesFirst remaining Barred old new _ = ⊤
@@ -48,7 +53,8 @@ IsBefore n m mark = (m.part.origin ≤ mark.offset) × (mark.offset < m.part.ori
 abbrev pub IsWithin : (start end : ℕ) → Mark → Type 0
 IsWithin start end mark = (start ≤ mark.offset) × (mark.offset < end)
 
--- each mark on an item below n of the part was given on, or passed over: the one that is held is on none of these, and where none is held, none comes any more
+-- each mark on an item below n of the part was given on, or passed over: the one that is held is on none of these, and
+-- where none is held, none comes any more
 pub record IsGivenTo {R : Type 0} (n : ℕ) (m : Marking R) : Type 0 where
   pub held : (mark : Mark) → m.held ≡ Some mark → m.part.origin + n ≤ mark.offset
   pub none : m.held ≡ None → m.is_over ≡ true
@@ -75,7 +81,8 @@ Refuses least n (Some mark) (MarkPlace b k) = (k ≡ n) × (mark.offset < least)
 Refuses least n said _ = ⊥
 
 -- the same of a reader of marks where there is one
-abbrev pub NameFirst : {R : Type 0} → (R → Option (List ℕ)) → (Marking R → Mark → Type 0) → (old new : Option (Marking R)) → PipelineFault → Type 0
+abbrev pub NameFirst : {R : Type 0} → (R → Option (List ℕ)) → (Marking R → Mark → Type 0)
+    → (old new : Option (Marking R)) → PipelineFault → Type 0
 NameFirst remaining Barred (Some m) (Some m') fault = NamesFirst remaining (Barred m) m m' fault
 NameFirst remaining Barred _ _ fault = ⊤
 

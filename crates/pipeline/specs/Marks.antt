@@ -8,8 +8,9 @@ use Rattle.script_text.specs.MarkLines.{marks_said}
 use Rattle.pipeline.specs.declared.part.TapePart.{TapePart}
 use Rattle.pipeline.specs.Parts.{marks_behind}
 
--- a reader of marks: whether a read of it failed, what was read of which no line was taken, how many lines with a line feed were taken, the mark that was read and not given yet, whether the
--- reader has no more, the number of the line of the mark that was read last, and its item on the whole tape, of which the source is fed this part
+-- a reader of marks: whether a read of it failed, what was read of which no line was taken, how many lines with a line
+-- feed were taken, the mark that was read and not given yet, whether the reader has no more, the number of the line of
+-- the mark that was read last, and its item on the whole tape, of which the source is fed this part
 pub record Marking (R : Type 0) : Type 0 where
   pub reader : R
   pub has_failed : Bool
@@ -23,7 +24,17 @@ pub record Marking (R : Type 0) : Type 0 where
 
 -- a reader of which nothing was read
 abbrev pub unread : {R : Type 0} → TapePart → R → Marking R
-unread part reader = record { reader = reader; has_failed = false; rest = []; taken = 0; held = None; is_over = false; line = 0; least = 0; part = part }
+unread part reader = record {
+  reader = reader;
+  has_failed = false;
+  rest = [];
+  taken = 0;
+  held = None;
+  is_over = false;
+  line = 0;
+  least = 0;
+  part = part;
+}
 
 -- marks in the order of their items, of which the first is not before item n
 abbrev pub Rise : ℕ → List Mark → Type 0
@@ -44,10 +55,13 @@ abbrev pub Follows : ℕ → Option Mark → ℕ → Type 0
 Follows n None k = k ≡ n
 Follows n (Some mark) k = (n ≤ mark.offset) × (k ≡ mark.offset)
 
--- of these bytes, all that the reader gave, the lines say the marks that were given on or passed over and then the one that is held, and the rest is behind them:
--- whatever bytes follow, of which there are none where the reader has no more. They are in the order of their items, and their lines are counted
-pub record HasTold {R : Type 0} (remaining : R → Option (List ℕ)) (m : Marking R) (bytes : List ℕ) (given : List Mark) : Type 0 where
-  pub lines : (more : List ℕ) → (m.is_over ≡ true → more ≡ []) → marks_said (bytes ++ more) ≡ map Some (given ++ option_to_list m.held) ++ marks_said (m.rest ++ more)
+-- of these bytes, all that the reader gave, the lines say the marks that were given on or passed over and then the one
+-- that is held, and the rest is behind them: whatever bytes follow, of which there are none where the reader has no
+-- more. They are in the order of their items, and their lines are counted
+pub record HasTold {R : Type 0} (remaining : R → Option (List ℕ)) (m : Marking R) (bytes : List ℕ) (given : List Mark) :
+    Type 0 where
+  pub lines : (more : List ℕ) → (m.is_over ≡ true → more ≡ []) → marks_said (bytes ++ more)
+      ≡ map Some (given ++ option_to_list m.held) ++ marks_said (m.rest ++ more)
   pub at_end : m.is_over ≡ true → IsAtEnd (remaining m.reader)
   pub rise : RiseTo m.least (given ++ option_to_list m.held)
   pub counted : m.is_over ≡ false → m.taken ≡ length (given ++ option_to_list m.held)
@@ -57,7 +71,8 @@ pub record HasTold {R : Type 0} (remaining : R → Option (List ℕ)) (m : Marki
 pub record Gives {R : Type 0} (remaining : R → Option (List ℕ)) (old new : Marking R) (marks : List Mark) : Type 0 where
   pub bytes : List ℕ
   pub read : Consumes (remaining old.reader) (remaining new.reader) bytes
-  pub told : (before : List ℕ) (given : List Mark) → HasTold remaining old before given → HasTold remaining new (before ++ bytes) (given ++ marks)
+  pub told : (before : List ℕ) (given : List Mark) → HasTold remaining old before given
+      → HasTold remaining new (before ++ bytes) (given ++ marks)
   pub over : old.is_over ≡ true → bytes ≡ []
   pub stays_over : old.is_over ≡ true → new.is_over ≡ true
   pub part : new.part ≡ old.part
@@ -70,7 +85,8 @@ pub record IsRead {R : Type 0} (remaining : R → Option (List ℕ)) (old new : 
 
 -- it gave on marks to the end of a list: those on items of the part, by their numbers there
 abbrev pub GivesTo : {R : Type 0} → (R → Option (List ℕ)) → (old new : Marking R) → (before after : List Mark) → Type 0
-GivesTo remaining old new before after = (marks : List Mark) × Gives remaining old new marks × (after ≡ before ++ marks_behind old.part.origin marks)
+GivesTo remaining old new before after = (marks : List Mark) × Gives remaining old new marks
+    × (after ≡ before ++ marks_behind old.part.origin marks)
 
 -- it has no more, and no mark is left
 pub record IsOver {R : Type 0} (m : Marking R) : Type 0 where
@@ -85,10 +101,13 @@ ReadsMarks remaining (Some m) (Some m') bytes = Consumes (remaining m.reader) (r
 ReadsMarks remaining None (Some m') bytes = ⊥
 ReadsMarks remaining (Some m) None bytes = ⊥
 
--- the tags of source b are those that it had at the start, and behind them the marks that the reader gave on of these bytes: those on items of the part, by their numbers there
-abbrev pub AreTold : {R : Type 0} → (R → Option (List ℕ)) → ℕ → Option (Marking R) → List ℕ → List Tag → List Tag → Type 0
+-- the tags of source b are those that it had at the start, and behind them the marks that the reader gave on of these
+-- bytes: those on items of the part, by their numbers there
+abbrev pub AreTold : {R : Type 0} → (R → Option (List ℕ)) → ℕ → Option (Marking R) → List ℕ → List Tag → List Tag
+    → Type 0
 AreTold remaining b None bytes start out = out ≡ start
-AreTold remaining b (Some m) bytes start out = (given : List Mark) × HasTold remaining m bytes given × (out ≡ start ++ map (tag_of b) (marks_behind m.part.origin given))
+AreTold remaining b (Some m) bytes start out = (given : List Mark) × HasTold remaining m bytes given
+    × (out ≡ start ++ map (tag_of b) (marks_behind m.part.origin given))
 
 -- whether a read of the reader of marks failed
 abbrev pub have_failed : {R : Type 0} → Option (Marking R) → Bool
@@ -101,7 +120,8 @@ AreOver None = ⊤
 AreOver (Some m) = m.part.goes_on ≡ false → IsOver m
 
 -- where there is a reader of marks, it gave on these
-abbrev pub FindsMarks : {R : Type 0} → (R → Option (List ℕ)) → Option (Marking R) → Option (Marking R) → List Mark → Type 0
+abbrev pub FindsMarks : {R : Type 0} → (R → Option (List ℕ)) → Option (Marking R) → Option (Marking R) → List Mark
+    → Type 0
 FindsMarks remaining None None marks = marks ≡ []
 FindsMarks remaining (Some m) (Some m') marks = GivesTo remaining m m' [] marks
 FindsMarks remaining None (Some m') marks = ⊥

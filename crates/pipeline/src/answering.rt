@@ -14,7 +14,9 @@ use std::io::{Read, Write};
 impl<B: Block, R: Read, W: Write> Pipeline<B, R, W> {
     /// Answers the next request, if there is one, and returns whether it was a stop.
     pub(crate) fn serve<C: Requests>(&mut self, requests: &mut C) -> bool
-        ensures { GoesOnAsked R.remaining W.contents C.asked C.answered (net_of B.meaning self.old.plant.plant.graph) (if result then Some Stopped else None) requests.old requests.new self.old.plant self.new.plant self.old.ends.items self.new.ends.items }
+        ensures { GoesOnAsked R.remaining W.contents C.asked C.answered (net_of B.meaning self.old.plant.plant.graph)
+            (if result then Some Stopped else None) requests.old requests.new self.old.plant self.new.plant
+            self.old.ends.items self.new.ends.items }
     {
         let Some(request) = requests.take() else {
             return false;
@@ -28,7 +30,8 @@ impl<B: Block, R: Read, W: Write> Pipeline<B, R, W> {
     // Makes the plant's call that a request asks for.
     fn answer_to(&mut self, request: Request) -> Answer
         ensures ends { self.new.ends.items ≡ self.old.ends.items }
-        ensures answers { Answers (net_of B.meaning self.old.plant.plant.graph) self.old.plant self.new.plant record { request = request; answer = result } }
+        ensures answers { Answers (net_of B.meaning self.old.plant.plant.graph) self.old.plant self.new.plant
+            record { request = request; answer = result } }
     {
         self.plant.recall();
         match request {
@@ -53,7 +56,8 @@ impl<B: Block, R: Read, W: Write> Pipeline<B, R, W> {
 
     // How many items of its first input a block has taken.
     fn come(&self, block: BlockId) -> u64
-        ensures { result ≡ come_in (levels_at (net_of B.meaning self.now.plant.plant.graph) self.now.plant.plant.state block.0) }
+        ensures { result ≡ come_in (levels_at (net_of B.meaning self.now.plant.plant.graph) self.now.plant.plant.state
+            block.0) }
     {
         match self.plant.levels(block) {
             Ok(levels) => levels.taken,

@@ -26,8 +26,10 @@ impl<B: Block, R: Read, W: Write> Pipeline<B, R, W> {
         requests: &C,
     ) -> Result<Option<BlockId>, Called>
         ensures same { (self.new.plant ≡ self.old.plant) × (self.new.ends.items ≡ self.old.ends.items) }
-        ensures some { IfOk result (λ next. IfSome next (λ source. IsNext (net_of B.meaning self.new.plant.plant.graph) self.new.plant self.new.ends.items source.0)) }
-        ensures none { IfOk result (λ next. IfNone next (NoneLacks (net_of B.meaning self.new.plant.plant.graph) self.new.plant self.new.ends.items)) }
+        ensures some { IfOk result (λ next. IfSome next (λ source. IsNext (net_of B.meaning self.new.plant.plant.graph)
+            self.new.plant self.new.ends.items source.0)) }
+        ensures none { IfOk result (λ next. IfNone next (NoneLacks (net_of B.meaning self.new.plant.plant.graph)
+            self.new.plant self.new.ends.items)) }
     {
         let blocks = self.plant.graph().len();
         let behind = (self.sink.0 as usize + 1).min(blocks);
@@ -51,9 +53,12 @@ impl<B: Block, R: Read, W: Write> Pipeline<B, R, W> {
     fn first_awaiting(&self, from: usize, to: usize) -> Option<(BlockId, BlockId)>
         requires inside { to ≤ length self.now.plant.plant.graph.blocks }
         requires few { to ≤ 256 }
-        ensures some { IfSome result (λ found. Awaits (net_of B.meaning self.now.plant.plant.graph) self.now.plant found.0.0 found.1.0) }
-        ensures lacks { IfSome result (λ found. Lacks (net_of B.meaning self.now.plant.plant.graph) self.now.plant found.1.0 (end_at self.now.ends.items found.1.0)) }
-        ensures none { IfNone result ((k : ℕ) → from ≤ k → k < to → AwaitsNone (net_of B.meaning self.now.plant.plant.graph) self.now.plant self.now.ends.items k) }
+        ensures some { IfSome result (λ found. Awaits (net_of B.meaning self.now.plant.plant.graph) self.now.plant
+            found.0.0 found.1.0) }
+        ensures lacks { IfSome result (λ found. Lacks (net_of B.meaning self.now.plant.plant.graph) self.now.plant
+            found.1.0 (end_at self.now.ends.items found.1.0)) }
+        ensures none { IfNone result ((k : ℕ) → from ≤ k → k < to → AwaitsNone
+            (net_of B.meaning self.now.plant.plant.graph) self.now.plant self.now.ends.items k) }
     {
         for block in from..to {
             let sink = BlockId(block as u32);
@@ -67,9 +72,12 @@ impl<B: Block, R: Read, W: Write> Pipeline<B, R, W> {
     // The source that lacks items to which the waits of a sink lead.
     fn lacked_by(&self, sink: BlockId) -> Option<BlockId>
         requires { sink.0 < length self.now.plant.plant.graph.blocks }
-        ensures some { IfSome result (λ source. Awaits (net_of B.meaning self.now.plant.plant.graph) self.now.plant sink.0 source.0) }
-        ensures lacks { IfSome result (λ source. Lacks (net_of B.meaning self.now.plant.plant.graph) self.now.plant source.0 (end_at self.now.ends.items source.0)) }
-        ensures none { IfNone result (AwaitsNone (net_of B.meaning self.now.plant.plant.graph) self.now.plant self.now.ends.items sink.0) }
+        ensures some { IfSome result (λ source. Awaits (net_of B.meaning self.now.plant.plant.graph) self.now.plant
+            sink.0 source.0) }
+        ensures lacks { IfSome result (λ source. Lacks (net_of B.meaning self.now.plant.plant.graph) self.now.plant
+            source.0 (end_at self.now.ends.items source.0)) }
+        ensures none { IfNone result (AwaitsNone (net_of B.meaning self.now.plant.plant.graph) self.now.plant
+            self.now.ends.items sink.0) }
     {
         match self.plant.graph().role(sink) {
             Role::Source | Role::Work => None,
@@ -79,7 +87,8 @@ impl<B: Block, R: Read, W: Write> Pipeline<B, R, W> {
 
     // The block to which as many waits lead from a sink as there are blocks.
     fn led_to(&self, sink: BlockId) -> BlockId
-        ensures { result.0 ≡ led_to (net_of B.meaning self.now.plant.plant.graph) self.now.plant.plant.capacities self.now.plant.plant.state sink.0 }
+        ensures { result.0 ≡ led_to (net_of B.meaning self.now.plant.plant.graph) self.now.plant.plant.capacities
+            self.now.plant.plant.state sink.0 }
     {
         let mut block = sink;
         for _waits in 0..self.plant.graph().len() {
@@ -94,7 +103,8 @@ impl<B: Block, R: Read, W: Write> Pipeline<B, R, W> {
 
     // The block that a block waits for, or the block itself if it waits for none.
     fn needed_by(&self, block: BlockId) -> BlockId
-        ensures { result.0 ≡ needed_by (net_of B.meaning self.now.plant.plant.graph) self.now.plant.plant.capacities self.now.plant.plant.state block.0 }
+        ensures { result.0 ≡ needed_by (net_of B.meaning self.now.plant.plant.graph) self.now.plant.plant.capacities
+            self.now.plant.plant.state block.0 }
     {
         match self.plant.need(block) {
             Ok(BlockNeed::Items { writer, .. }) => writer,
@@ -107,16 +117,20 @@ impl<B: Block, R: Read, W: Write> Pipeline<B, R, W> {
     // The block, if it lacks items.
     fn where_lacking(&self, block: BlockId) -> Option<BlockId>
         ensures some { IfSome result (λ source. source ≡ block) }
-        ensures lacks { IfSome result (λ _. Lacks (net_of B.meaning self.now.plant.plant.graph) self.now.plant block.0 (end_at self.now.ends.items block.0)) }
-        ensures none { IfNone result (Lacks (net_of B.meaning self.now.plant.plant.graph) self.now.plant block.0 (end_at self.now.ends.items block.0) → ⊥) }
+        ensures lacks { IfSome result (λ _. Lacks (net_of B.meaning self.now.plant.plant.graph) self.now.plant block.0
+            (end_at self.now.ends.items block.0)) }
+        ensures none { IfNone result (Lacks (net_of B.meaning self.now.plant.plant.graph) self.now.plant block.0
+            (end_at self.now.ends.items block.0) → ⊥) }
     {
         if self.lacks(block) { Some(block) } else { None }
     }
 
     // The first source that lacks items and has a reader.
     fn any_lacking(&self) -> Option<BlockId>
-        ensures some { IfSome result (λ source. Lacks (net_of B.meaning self.now.plant.plant.graph) self.now.plant source.0 (end_at self.now.ends.items source.0)) }
-        ensures none { IfNone result (NoneLacks (net_of B.meaning self.now.plant.plant.graph) self.now.plant self.now.ends.items) }
+        ensures some { IfSome result (λ source. Lacks (net_of B.meaning self.now.plant.plant.graph) self.now.plant
+            source.0 (end_at self.now.ends.items source.0)) }
+        ensures none { IfNone result (NoneLacks (net_of B.meaning self.now.plant.plant.graph) self.now.plant
+            self.now.ends.items) }
     {
         for block in 0..self.plant.graph().len() {
             let block = BlockId(block as u32);
@@ -136,9 +150,12 @@ impl<B: Block, R: Read, W: Write> Pipeline<B, R, W> {
         requests: &C,
     ) -> Result<(BlockId, BlockId), Called>
         requires awaits { Awaits (net_of B.meaning self.now.plant.plant.graph) self.now.plant first.0.0 first.1.0 }
-        requires lacks { Lacks (net_of B.meaning self.now.plant.plant.graph) self.now.plant first.1.0 (end_at self.now.ends.items first.1.0) }
-        ensures awaits { IfOk result (λ found. Awaits (net_of B.meaning self.now.plant.plant.graph) self.now.plant found.0.0 found.1.0) }
-        ensures lacks { IfOk result (λ found. Lacks (net_of B.meaning self.now.plant.plant.graph) self.now.plant found.1.0 (end_at self.now.ends.items found.1.0)) }
+        requires lacks { Lacks (net_of B.meaning self.now.plant.plant.graph) self.now.plant first.1.0
+            (end_at self.now.ends.items first.1.0) }
+        ensures awaits { IfOk result (λ found. Awaits (net_of B.meaning self.now.plant.plant.graph) self.now.plant
+            found.0.0 found.1.0) }
+        ensures lacks { IfOk result (λ found. Lacks (net_of B.meaning self.now.plant.plant.graph) self.now.plant
+            found.1.0 (end_at self.now.ends.items found.1.0)) }
     {
         if readiness.is_ready(first.1) {
             return Ok(first);
@@ -160,7 +177,8 @@ impl<B: Block, R: Read, W: Write> Pipeline<B, R, W> {
         Ok(first)
     }
 
-    // The first of the sinks from `from` to below `to` whose waits lead to a source that lacks items and is ready, and that source.
+    // The first of the sinks from `from` to below `to` whose waits lead to a source that lacks items and is ready, and
+    // that source.
     fn awaiting_ready<Q: Readiness>(
         &self,
         from: usize,
@@ -169,8 +187,10 @@ impl<B: Block, R: Read, W: Write> Pipeline<B, R, W> {
     ) -> Option<(BlockId, BlockId)>
         requires inside { to ≤ length self.now.plant.plant.graph.blocks }
         requires few { to ≤ 256 }
-        ensures some { IfSome result (λ found. Awaits (net_of B.meaning self.now.plant.plant.graph) self.now.plant found.0.0 found.1.0) }
-        ensures lacks { IfSome result (λ found. Lacks (net_of B.meaning self.now.plant.plant.graph) self.now.plant found.1.0 (end_at self.now.ends.items found.1.0)) }
+        ensures some { IfSome result (λ found. Awaits (net_of B.meaning self.now.plant.plant.graph) self.now.plant
+            found.0.0 found.1.0) }
+        ensures lacks { IfSome result (λ found. Lacks (net_of B.meaning self.now.plant.plant.graph) self.now.plant
+            found.1.0 (end_at self.now.ends.items found.1.0)) }
     {
         for block in from..to {
             let sink = BlockId(block as u32);
@@ -190,8 +210,10 @@ impl<B: Block, R: Read, W: Write> Pipeline<B, R, W> {
         readiness: &mut Q,
         requests: &C,
     ) -> Result<BlockId, Called>
-        requires { Lacks (net_of B.meaning self.now.plant.plant.graph) self.now.plant first.0 (end_at self.now.ends.items first.0) }
-        ensures { IfOk result (λ source. Lacks (net_of B.meaning self.now.plant.plant.graph) self.now.plant source.0 (end_at self.now.ends.items source.0)) }
+        requires { Lacks (net_of B.meaning self.now.plant.plant.graph) self.now.plant first.0
+            (end_at self.now.ends.items first.0) }
+        ensures { IfOk result (λ source. Lacks (net_of B.meaning self.now.plant.plant.graph) self.now.plant source.0
+            (end_at self.now.ends.items source.0)) }
     {
         if readiness.is_ready(first) {
             return Ok(first);
@@ -210,7 +232,8 @@ impl<B: Block, R: Read, W: Write> Pipeline<B, R, W> {
 
     // The first source that lacks items, has a reader and is ready.
     fn lacking_ready<Q: Readiness>(&self, readiness: &mut Q) -> Option<BlockId>
-        ensures { IfSome result (λ source. Lacks (net_of B.meaning self.now.plant.plant.graph) self.now.plant source.0 (end_at self.now.ends.items source.0)) }
+        ensures { IfSome result (λ source. Lacks (net_of B.meaning self.now.plant.plant.graph) self.now.plant source.0
+            (end_at self.now.ends.items source.0)) }
     {
         for block in 0..self.plant.graph().len() {
             let block = BlockId(block as u32);
@@ -224,8 +247,10 @@ impl<B: Block, R: Read, W: Write> Pipeline<B, R, W> {
     // Whether a source has given all that it was fed, and its reader has more.
     #[tactic(auto, using(crate::proofs::Moving::lacks_more))]
     fn lacks(&self, block: BlockId) -> bool
-        ensures only { result ≡ true → Lacks (net_of B.meaning self.now.plant.plant.graph) self.now.plant block.0 (end_at self.now.ends.items block.0) }
-        ensures all { Lacks (net_of B.meaning self.now.plant.plant.graph) self.now.plant block.0 (end_at self.now.ends.items block.0) → result ≡ true }
+        ensures only { result ≡ true → Lacks (net_of B.meaning self.now.plant.plant.graph) self.now.plant block.0
+            (end_at self.now.ends.items block.0) }
+        ensures all { Lacks (net_of B.meaning self.now.plant.plant.graph) self.now.plant block.0
+            (end_at self.now.ends.items block.0) → result ≡ true }
     {
         match self.ends.get(block.0 as usize) {
             Some(end) => end.has_more() && matches!(self.plant.need(block), Ok(BlockNeed::Feed)),

@@ -33,9 +33,11 @@ pub(crate) fn deliver<B: Block, W: Write>(
     sink: BlockId,
     output: &mut Output<W>,
 ) -> Result<(), PipelineFault>
-    ensures ok { OnOk result (Delivers Appends W.contents (net_of B.meaning plant.old.plant.graph) plant.old plant.new sink.0 output.old output.new) }
+    ensures ok { OnOk result (Delivers Appends W.contents (net_of B.meaning plant.old.plant.graph) plant.old plant.new
+        sink.0 output.old output.new) }
     ensures all { OnOk result (drained plant.new sink.0 ≡ fired plant.new.plant.state sink.0) }
-    ensures err { OnErr result (Delivers AppendsBeginning W.contents (net_of B.meaning plant.old.plant.graph) plant.old plant.new sink.0 output.old output.new) }
+    ensures err { OnErr result (Delivers AppendsBeginning W.contents (net_of B.meaning plant.old.plant.graph) plant.old
+        plant.new sink.0 output.old output.new) }
     ensures fault { IfErr result (IsOfWriters sink output.new) }
     ensures tags_wait { IfErr result (LeavesTags output.old output.new) }
 {
@@ -66,8 +68,10 @@ fn write_items<W: Write>(
     left_out: u64,
 ) -> Result<(), PipelineFault>
     ensures rest { output.new ≡ record output.old { items_to = output.new.items_to; bytes = output.new.bytes } }
-    ensures ok { OnOk result (WriterGrows Appends W.contents output.old.items_to output.new.items_to (all_bytes_of (type_of output.old.items) output.old.order (drop left_out (numbers_of output.old.items)))) }
-    ensures err { OnErr result (WriterGrows AppendsBeginning W.contents output.old.items_to output.new.items_to (all_bytes_of (type_of output.old.items) output.old.order (drop left_out (numbers_of output.old.items)))) }
+    ensures ok { OnOk result (WriterGrows Appends W.contents output.old.items_to output.new.items_to
+        (all_bytes_of (type_of output.old.items) output.old.order (drop left_out (numbers_of output.old.items)))) }
+    ensures err { OnErr result (WriterGrows AppendsBeginning W.contents output.old.items_to output.new.items_to
+        (all_bytes_of (type_of output.old.items) output.old.order (drop left_out (numbers_of output.old.items)))) }
     ensures fault { IfErr result (IsOfWriters sink output.new) }
     ensures own { IfErr result IsNotOfTags }
 {
@@ -87,8 +91,10 @@ fn write_items<W: Write>(
 // Writes the drained tags that are in the part to write.
 fn write_tags<W: Write>(sink: BlockId, output: &mut Output<W>) -> Result<(), PipelineFault>
     ensures rest { output.new ≡ record output.old { tags_to = output.new.tags_to; bytes = output.new.bytes } }
-    ensures ok { OnOk result (WriterGrows Appends W.contents output.old.tags_to output.new.tags_to (lines_of_part output.old.part (tags_seen output.old.tags.items))) }
-    ensures err { OnErr result (WriterGrows AppendsBeginning W.contents output.old.tags_to output.new.tags_to (lines_of_part output.old.part (tags_seen output.old.tags.items))) }
+    ensures ok { OnOk result (WriterGrows Appends W.contents output.old.tags_to output.new.tags_to
+        (lines_of_part output.old.part (tags_seen output.old.tags.items))) }
+    ensures err { OnErr result (WriterGrows AppendsBeginning W.contents output.old.tags_to output.new.tags_to
+        (lines_of_part output.old.part (tags_seen output.old.tags.items))) }
     ensures fault { IfErr result (IsOfWriters sink output.new) }
     ensures own { IfErr result IsNotOfItems }
 {

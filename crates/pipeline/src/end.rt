@@ -54,7 +54,13 @@ impl<R> Input<R> {
 
     /// A reader that was not read yet, for a source of such items.
     pub(crate) fn new(alloc: Global, item: ItemType, order: ByteOrder, reader: R) -> Input<R>
-        ensures { result ≡ record { reader = reader; has_failed = false; decoder = record { item_type = item; order = order; cut = [] }; marks = None; is_ended = false } }
+        ensures { result ≡ record {
+          reader = reader;
+          has_failed = false;
+          decoder = record { item_type = item; order = order; cut = [] };
+          marks = None;
+          is_ended = false;
+        } }
     {
         Input {
             reader: Tracked::new(reader),

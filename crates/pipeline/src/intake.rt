@@ -33,11 +33,14 @@ impl<R: Read> Input<R> {
         source: BlockId,
         piece: &mut [u8; PIECE],
     ) -> Result<(), PipelineFault>
-        ensures ok { OnOk result (TakesIn (HasRead R.remaining) (net_of B.meaning plant.old.plant.graph) plant.old plant.new source.0 self.old self.new) }
-        ensures err { OnErr result (TakesIn (MayHaveRead R.remaining source.0) (net_of B.meaning plant.old.plant.graph) plant.old plant.new source.0 self.old self.new) }
+        ensures ok { OnOk result (TakesIn (HasRead R.remaining) (net_of B.meaning plant.old.plant.graph) plant.old
+            plant.new source.0 self.old self.new) }
+        ensures err { OnErr result (TakesIn (MayHaveRead R.remaining source.0) (net_of B.meaning plant.old.plant.graph)
+            plant.old plant.new source.0 self.old self.new) }
         ensures fault { IfErr result (IsOfReader R.remaining source self.new) }
         ensures noted { IfErr result (NotesReads self.old self.new) }
-        ensures cut { IfErr result (λ fault. IsCut fault → TakesIn (HasRead R.remaining) (net_of B.meaning plant.old.plant.graph) plant.old plant.new source.0 self.old self.new) }
+        ensures cut { IfErr result (λ fault. IsCut fault → TakesIn (HasRead R.remaining)
+            (net_of B.meaning plant.old.plant.graph) plant.old plant.new source.0 self.old self.new) }
     {
         if self.is_ended {
             return Ok(());
@@ -59,7 +62,8 @@ impl<R: Read> Input<R> {
         source: BlockId,
         bytes: &[u8],
     ) -> Result<(), PipelineFault>
-        ensures ok { OnOk result (TakesIn (HasFed R.remaining bytes.now) (net_of B.meaning plant.old.plant.graph) plant.old plant.new source.0 self.old self.new) }
+        ensures ok { OnOk result (TakesIn (HasFed R.remaining bytes.now) (net_of B.meaning plant.old.plant.graph)
+            plant.old plant.new source.0 self.old self.new) }
         ensures reader { self.new.reader ≡ self.old.reader }
         ensures err { OnErr result (plant.new ≡ plant.old) }
         ensures ended { OnErr result (self.new.is_ended ≡ self.old.is_ended) }
@@ -91,7 +95,8 @@ impl<R: Read> Input<R> {
     ) -> Result<(), PipelineFault>
         requires at_end { IsAtEnd (R.remaining self.old.reader) }
         requires goes_on { self.old.is_ended ≡ false }
-        ensures ok { OnOk result (TakesIn (HasRead R.remaining) (net_of B.meaning plant.old.plant.graph) plant.old plant.new source.0 self.old self.new) }
+        ensures ok { OnOk result (TakesIn (HasRead R.remaining) (net_of B.meaning plant.old.plant.graph) plant.old
+            plant.new source.0 self.old self.new) }
         ensures reader { self.new.reader ≡ self.old.reader }
         ensures err { OnErr result (plant.new ≡ plant.old) }
         ensures ended { OnErr result (self.new.is_ended ≡ self.old.is_ended) }
@@ -137,7 +142,9 @@ fn hand<B: Block>(
     items: &Items,
     marks: &[Mark],
 ) -> Result<Fed, PipelineFault>
-    ensures answered { Answered (feed_of (net_of B.meaning plant.old.plant.graph) plant.old.plant.state source.0 (type_of items.now) (numbers_of items.now) (marks_seen marks.now)) plant.old.plant plant.new.plant (told_reply (λ f. machine.Fed f.0) result) }
+    ensures answered { Answered (feed_of (net_of B.meaning plant.old.plant.graph) plant.old.plant.state source.0
+        (type_of items.now) (numbers_of items.now) (marks_seen marks.now)) plant.old.plant plant.new.plant
+        (told_reply (λ f. machine.Fed f.0) result) }
     ensures kept { plant.new.kept ≡ plant.old.kept }
     ensures err { OnErr result (plant.new ≡ plant.old) }
     ensures fault { IfErr result (IsOfPlant source) }

@@ -30,7 +30,8 @@ impl<B: Block, R: Read + Drop, W: Write + Drop> Pipeline<B, R, W> {
         plant: StreamingPlant<B>,
     ) -> Result<Pipeline<B, R, W>, (StreamingPlant<B>, AllocError)>
         ensures plant { IfOk result (λ pipeline. pipeline.plant ≡ plant) }
-        ensures open { IfOk result (λ pipeline. pipeline.ends.items ≡ replicate (length plant.plant.graph.blocks) Open) }
+        ensures open { IfOk result (λ pipeline. pipeline.ends.items ≡ replicate (length plant.plant.graph.blocks)
+            Open) }
         ensures back { IfErr result (λ refusal. refusal.0 ≡ plant) }
     {
         let ends = match all_open(alloc, plant.graph().len()) {
@@ -58,10 +59,14 @@ impl<B: Block, R: Read + Drop, W: Write + Drop> Pipeline<B, R, W> {
         reader: R,
     ) -> Result<(), PipelineFault>
         ensures plant { self.new.plant ≡ self.old.plant }
-        ensures other { IfErr (source_type_of (net_of B.meaning self.old.plant.plant.graph) source.0) (λ fault. result ≡ Err (Plant source fault)) }
-        ensures free { IsOk (source_type_of (net_of B.meaning self.old.plant.plant.graph) source.0) → source.0 < length self.old.ends.items → end_at self.old.ends.items source.0 ≡ Open → IsOk result }
-        ensures joined { IsOk (source_type_of (net_of B.meaning self.old.plant.plant.graph) source.0) → (end_at self.old.ends.items source.0 ≡ Open → ⊥) → result ≡ Err (Joined source) }
-        ensures joins { OnOk result (JoinsReader (net_of B.meaning self.old.plant.plant.graph) source.0 order reader self.old.ends.items self.new.ends.items) }
+        ensures other { IfErr (source_type_of (net_of B.meaning self.old.plant.plant.graph) source.0)
+            (λ fault. result ≡ Err (Plant source fault)) }
+        ensures free { IsOk (source_type_of (net_of B.meaning self.old.plant.plant.graph) source.0)
+            → source.0 < length self.old.ends.items → end_at self.old.ends.items source.0 ≡ Open → IsOk result }
+        ensures joined { IsOk (source_type_of (net_of B.meaning self.old.plant.plant.graph) source.0)
+            → (end_at self.old.ends.items source.0 ≡ Open → ⊥) → result ≡ Err (Joined source) }
+        ensures joins { OnOk result (JoinsReader (net_of B.meaning self.old.plant.plant.graph) source.0 order reader
+            self.old.ends.items self.new.ends.items) }
         ensures err { OnErr result (self.new.ends.items ≡ self.old.ends.items) }
     {
         let item = match self.plant.source_type(source) {
@@ -128,10 +133,14 @@ impl<B: Block, R: Read + Drop, W: Write + Drop> Pipeline<B, R, W> {
         tags: Option<W>,
     ) -> Result<(), PipelineFault>
         ensures plant { self.new.plant ≡ self.old.plant }
-        ensures other { IfErr (sink_type_of (net_of B.meaning self.old.plant.plant.graph) sink.0) (λ fault. result ≡ Err (Plant sink fault)) }
-        ensures free { IsOk (sink_type_of (net_of B.meaning self.old.plant.plant.graph) sink.0) → sink.0 < length self.old.ends.items → end_at self.old.ends.items sink.0 ≡ Open → IsOk result }
-        ensures joined { IsOk (sink_type_of (net_of B.meaning self.old.plant.plant.graph) sink.0) → (end_at self.old.ends.items sink.0 ≡ Open → ⊥) → result ≡ Err (Joined sink) }
-        ensures joins { OnOk result (JoinsWriters (net_of B.meaning self.old.plant.plant.graph) sink.0 whole_stream order items tags self.old.ends.items self.new.ends.items) }
+        ensures other { IfErr (sink_type_of (net_of B.meaning self.old.plant.plant.graph) sink.0)
+            (λ fault. result ≡ Err (Plant sink fault)) }
+        ensures free { IsOk (sink_type_of (net_of B.meaning self.old.plant.plant.graph) sink.0)
+            → sink.0 < length self.old.ends.items → end_at self.old.ends.items sink.0 ≡ Open → IsOk result }
+        ensures joined { IsOk (sink_type_of (net_of B.meaning self.old.plant.plant.graph) sink.0)
+            → (end_at self.old.ends.items sink.0 ≡ Open → ⊥) → result ≡ Err (Joined sink) }
+        ensures joins { OnOk result (JoinsWriters (net_of B.meaning self.old.plant.plant.graph) sink.0 whole_stream
+            order items tags self.old.ends.items self.new.ends.items) }
         ensures err { OnErr result (self.new.ends.items ≡ self.old.ends.items) }
     {
         self.write_part(alloc, sink, StreamPart::whole(), order, items, tags)
@@ -149,10 +158,14 @@ impl<B: Block, R: Read + Drop, W: Write + Drop> Pipeline<B, R, W> {
         tags: Option<W>,
     ) -> Result<(), PipelineFault>
         ensures plant { self.new.plant ≡ self.old.plant }
-        ensures other { IfErr (sink_type_of (net_of B.meaning self.old.plant.plant.graph) sink.0) (λ fault. result ≡ Err (Plant sink fault)) }
-        ensures free { IsOk (sink_type_of (net_of B.meaning self.old.plant.plant.graph) sink.0) → sink.0 < length self.old.ends.items → end_at self.old.ends.items sink.0 ≡ Open → IsOk result }
-        ensures joined { IsOk (sink_type_of (net_of B.meaning self.old.plant.plant.graph) sink.0) → (end_at self.old.ends.items sink.0 ≡ Open → ⊥) → result ≡ Err (Joined sink) }
-        ensures joins { OnOk result (JoinsWriters (net_of B.meaning self.old.plant.plant.graph) sink.0 part order items tags self.old.ends.items self.new.ends.items) }
+        ensures other { IfErr (sink_type_of (net_of B.meaning self.old.plant.plant.graph) sink.0)
+            (λ fault. result ≡ Err (Plant sink fault)) }
+        ensures free { IsOk (sink_type_of (net_of B.meaning self.old.plant.plant.graph) sink.0)
+            → sink.0 < length self.old.ends.items → end_at self.old.ends.items sink.0 ≡ Open → IsOk result }
+        ensures joined { IsOk (sink_type_of (net_of B.meaning self.old.plant.plant.graph) sink.0)
+            → (end_at self.old.ends.items sink.0 ≡ Open → ⊥) → result ≡ Err (Joined sink) }
+        ensures joins { OnOk result (JoinsWriters (net_of B.meaning self.old.plant.plant.graph) sink.0 part order items
+            tags self.old.ends.items self.new.ends.items) }
         ensures err { OnErr result (self.new.ends.items ≡ self.old.ends.items) }
     {
         let item = match sink_type(&self.plant, sink) {
@@ -209,7 +222,8 @@ fn all_open<R: Drop, W: Drop>(alloc: Global, blocks: usize) -> Result<Vec<End<R,
 // The type of the items of a sink.
 fn sink_type<B: Block>(plant: &StreamingPlant<B>, sink: BlockId) -> Result<ItemType, PlantFault>
     ensures value { result ≡ sink_type_of (net_of B.meaning plant.now.plant.graph) sink.0 }
-    ensures item { IfOk result (λ item. item ≡ (node_at (net_of B.meaning plant.now.plant.graph) sink.0).meaning.inputs.item) }
+    ensures item { IfOk result (λ item. item ≡ (node_at (net_of B.meaning plant.now.plant.graph)
+        sink.0).meaning.inputs.item) }
 {
     plant.recall();
     let graph = plant.graph();

@@ -96,9 +96,11 @@ impl<R: Read> MarkReader<R> {
         end: u64,
         marks: &mut Vec<Mark>,
     ) -> Result<(), PipelineFault>
-        ensures ok { OnOk result (GivesTo R.remaining self.old self.new (marks_seen marks.old.items) (marks_seen marks.new.items)) }
+        ensures ok { OnOk result (GivesTo R.remaining self.old self.new (marks_seen marks.old.items)
+            (marks_seen marks.new.items)) }
         ensures given_to { OnOk result (IsGivenTo end self.new) }
-        ensures within { OnOk result (All (IsWithin start end) (marks_seen marks.old.items) → All (IsWithin start end) (marks_seen marks.new.items)) }
+        ensures within { OnOk result (All (IsWithin start end) (marks_seen marks.old.items)
+            → All (IsWithin start end) (marks_seen marks.new.items)) }
         ensures err { OnErr result (IsRead R.remaining self.old self.new) }
         ensures fault { IfErr result (IsOfMarks source) }
         ensures stays { OnOk result (self.new.has_failed ≡ self.old.has_failed) }
@@ -122,9 +124,11 @@ impl<R: Read> MarkReader<R> {
         end: u64,
         marks: &mut Vec<Mark>,
     ) -> Result<bool, PipelineFault>
-        ensures ok { OnOk result (GivesTo R.remaining self.old self.new (marks_seen marks.old.items) (marks_seen marks.new.items)) }
+        ensures ok { OnOk result (GivesTo R.remaining self.old self.new (marks_seen marks.old.items)
+            (marks_seen marks.new.items)) }
         ensures given_to { IfOk result (λ more. more ≡ false → IsGivenTo end self.new) }
-        ensures within { OnOk result (All (IsWithin start end) (marks_seen marks.old.items) → All (IsWithin start end) (marks_seen marks.new.items)) }
+        ensures within { OnOk result (All (IsWithin start end) (marks_seen marks.old.items)
+            → All (IsWithin start end) (marks_seen marks.new.items)) }
         ensures err { OnErr result (IsRead R.remaining self.old self.new) }
         ensures fault { IfErr result (IsOfMarks source) }
         ensures stays { OnOk result (self.new.has_failed ≡ self.old.has_failed) }
@@ -194,7 +198,8 @@ impl<R: Read> MarkReader<R> {
     // Passes over the held mark if it lies before the part, and tells whether it does.
     fn pass(&mut self) -> bool
         ensures passed { result ≡ true → Passes self.old self.new }
-        ensures own { result ≡ false → (mark : model.Mark) → self.old.held ≡ Some mark → self.old.part.origin ≤ mark.offset }
+        ensures own { result ≡ false → (mark : model.Mark) → self.old.held ≡ Some mark
+            → self.old.part.origin ≤ mark.offset }
         ensures same { result ≡ false → self.new ≡ self.old }
     {
         let Some(mark) = self.held else {
@@ -306,7 +311,11 @@ impl<R: Read> MarkReader<R> {
     // Holds the mark of a line.
     fn hold(&mut self, source: BlockId, line: u64, mark: Option<Mark>) -> Result<(), PipelineFault>
         ensures some { OnOk result (IsSome mark) }
-        ensures ok { OnOk result (self.new ≡ record self.old { held = option_map mark_seen mark; line = line; least = self.new.least }) }
+        ensures ok { OnOk result (self.new ≡ record self.old {
+          held = option_map mark_seen mark;
+          line = line;
+          least = self.new.least;
+        }) }
         ensures follows { OnOk result (Follows self.old.least (option_map mark_seen mark) self.new.least) }
         ensures err { OnErr result (self.new ≡ self.old) }
         ensures fault { IfErr result (IsOfMarks source) }

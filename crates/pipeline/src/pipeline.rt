@@ -55,13 +55,19 @@ impl<B: Block, R: Read, W: Write> Pipeline<B, R, W> {
     /// fault, what was written is a beginning. Do not run the pipeline again then: what was read or drained last may be
     /// lost. At `CutItem` nothing is lost: close its source and run again.
     pub fn run(&mut self, alloc: Global) -> Result<Settled, PipelineFault>
-        ensures goes { OnOk result (GoesOn R.remaining W.contents (net_of B.meaning self.old.plant.plant.graph) self.old.plant self.new.plant self.old.ends.items self.new.ends.items) }
-        ensures begins { OnErr result (Begins R.remaining W.contents (net_of B.meaning self.old.plant.plant.graph) self.old.plant self.new.plant self.old.ends.items self.new.ends.items) }
+        ensures goes { OnOk result (GoesOn R.remaining W.contents (net_of B.meaning self.old.plant.plant.graph)
+            self.old.plant self.new.plant self.old.ends.items self.new.ends.items) }
+        ensures begins { OnErr result (Begins R.remaining W.contents (net_of B.meaning self.old.plant.plant.graph)
+            self.old.plant self.new.plant self.old.ends.items self.new.ends.items) }
         ensures fault { IfErr result (IsFaultOf R.remaining self.new.ends.items) }
-        ensures settled { IfOk result (λ settled. HasSettled (net_of B.meaning self.new.plant.plant.graph) self.new.plant.plant.capacities self.new.plant.plant.state settled) }
-        ensures whole { result ≡ Ok Done → IsWhole (net_of B.meaning self.new.plant.plant.graph) self.new.plant.plant.state }
-        ensures written { OnOk result (AreDelivered (net_of B.meaning self.new.plant.plant.graph) self.new.plant self.new.ends.items) }
-        ensures asked { result ≡ Ok Quiet → NoneLacks (net_of B.meaning self.new.plant.plant.graph) self.new.plant self.new.ends.items }
+        ensures settled { IfOk result (λ settled. HasSettled (net_of B.meaning self.new.plant.plant.graph)
+            self.new.plant.plant.capacities self.new.plant.plant.state settled) }
+        ensures whole { result ≡ Ok Done → IsWhole (net_of B.meaning self.new.plant.plant.graph)
+            self.new.plant.plant.state }
+        ensures written { OnOk result (AreDelivered (net_of B.meaning self.new.plant.plant.graph) self.new.plant
+            self.new.ends.items) }
+        ensures asked { result ≡ Ok Quiet → NoneLacks (net_of B.meaning self.new.plant.plant.graph) self.new.plant
+            self.new.ends.items }
     {
         self.run_with(alloc, &mut NoHelpers, &mut AllReady, &mut Unwatched)
     }
@@ -76,13 +82,19 @@ impl<B: Block, R: Read, W: Write> Pipeline<B, R, W> {
         readiness: &mut Q,
         watch: &mut V,
     ) -> Result<Settled, PipelineFault>
-        ensures goes { OnOk result (GoesOn R.remaining W.contents (net_of B.meaning self.old.plant.plant.graph) self.old.plant self.new.plant self.old.ends.items self.new.ends.items) }
-        ensures begins { OnErr result (Begins R.remaining W.contents (net_of B.meaning self.old.plant.plant.graph) self.old.plant self.new.plant self.old.ends.items self.new.ends.items) }
+        ensures goes { OnOk result (GoesOn R.remaining W.contents (net_of B.meaning self.old.plant.plant.graph)
+            self.old.plant self.new.plant self.old.ends.items self.new.ends.items) }
+        ensures begins { OnErr result (Begins R.remaining W.contents (net_of B.meaning self.old.plant.plant.graph)
+            self.old.plant self.new.plant self.old.ends.items self.new.ends.items) }
         ensures fault { IfErr result (IsFaultOf R.remaining self.new.ends.items) }
-        ensures settled { IfOk result (λ settled. HasSettled (net_of B.meaning self.new.plant.plant.graph) self.new.plant.plant.capacities self.new.plant.plant.state settled) }
-        ensures whole { result ≡ Ok Done → IsWhole (net_of B.meaning self.new.plant.plant.graph) self.new.plant.plant.state }
-        ensures written { OnOk result (AreDelivered (net_of B.meaning self.new.plant.plant.graph) self.new.plant self.new.ends.items) }
-        ensures asked { result ≡ Ok Quiet → NoneLacks (net_of B.meaning self.new.plant.plant.graph) self.new.plant self.new.ends.items }
+        ensures settled { IfOk result (λ settled. HasSettled (net_of B.meaning self.new.plant.plant.graph)
+            self.new.plant.plant.capacities self.new.plant.plant.state settled) }
+        ensures whole { result ≡ Ok Done → IsWhole (net_of B.meaning self.new.plant.plant.graph)
+            self.new.plant.plant.state }
+        ensures written { OnOk result (AreDelivered (net_of B.meaning self.new.plant.plant.graph) self.new.plant
+            self.new.ends.items) }
+        ensures asked { result ≡ Ok Quiet → NoneLacks (net_of B.meaning self.new.plant.plant.graph) self.new.plant
+            self.new.ends.items }
     {
         let mut nobody = NoRequests::new();
         match self.run_asked(alloc, helpers, readiness, &mut nobody, watch)? {
@@ -103,15 +115,26 @@ impl<B: Block, R: Read, W: Write> Pipeline<B, R, W> {
         requests: &mut C,
         watch: &mut V,
     ) -> Result<Ended, PipelineFault>
-        ensures goes { IfOk result (λ ended. GoesOnAsked R.remaining W.contents C.asked C.answered (net_of B.meaning self.old.plant.plant.graph) (Some ended) requests.old requests.new self.old.plant self.new.plant self.old.ends.items self.new.ends.items) }
-        ensures begins { OnErr result (BeginsAsked R.remaining W.contents C.asked C.answered (net_of B.meaning self.old.plant.plant.graph) requests.old requests.new self.old.plant self.new.plant self.old.ends.items self.new.ends.items) }
-        ensures streams { OnOk result (Streams Appends W.contents (net_of B.meaning self.old.plant.plant.graph) self.old.plant self.new.plant self.old.ends.items self.new.ends.items) }
-        ensures stream_begins { OnErr result (Streams AppendsBeginning W.contents (net_of B.meaning self.old.plant.plant.graph) self.old.plant self.new.plant self.old.ends.items self.new.ends.items) }
+        ensures goes { IfOk result (λ ended. GoesOnAsked R.remaining W.contents C.asked C.answered
+            (net_of B.meaning self.old.plant.plant.graph) (Some ended) requests.old requests.new self.old.plant
+            self.new.plant self.old.ends.items self.new.ends.items) }
+        ensures begins { OnErr result (BeginsAsked R.remaining W.contents C.asked C.answered
+            (net_of B.meaning self.old.plant.plant.graph) requests.old requests.new self.old.plant self.new.plant
+            self.old.ends.items self.new.ends.items) }
+        ensures streams { OnOk result (Streams Appends W.contents (net_of B.meaning self.old.plant.plant.graph)
+            self.old.plant self.new.plant self.old.ends.items self.new.ends.items) }
+        ensures stream_begins { OnErr result (Streams AppendsBeginning W.contents
+            (net_of B.meaning self.old.plant.plant.graph) self.old.plant self.new.plant self.old.ends.items
+            self.new.ends.items) }
         ensures fault { IfErr result (IsFaultOf R.remaining self.new.ends.items) }
-        ensures ended { IfOk result (HasEnded (net_of B.meaning self.new.plant.plant.graph) self.new.plant.plant.capacities self.new.plant.plant.state) }
-        ensures whole { result ≡ Ok (ended.Settled Done) → IsWhole (net_of B.meaning self.new.plant.plant.graph) self.new.plant.plant.state }
-        ensures written { OnOk result (AreDelivered (net_of B.meaning self.new.plant.plant.graph) self.new.plant self.new.ends.items) }
-        ensures lacks { result ≡ Ok (ended.Settled Quiet) → NoneLacks (net_of B.meaning self.new.plant.plant.graph) self.new.plant self.new.ends.items }
+        ensures ended { IfOk result (HasEnded (net_of B.meaning self.new.plant.plant.graph)
+            self.new.plant.plant.capacities self.new.plant.plant.state) }
+        ensures whole { result ≡ Ok (ended.Settled Done) → IsWhole (net_of B.meaning self.new.plant.plant.graph)
+            self.new.plant.plant.state }
+        ensures written { OnOk result (AreDelivered (net_of B.meaning self.new.plant.plant.graph) self.new.plant
+            self.new.ends.items) }
+        ensures lacks { result ≡ Ok (ended.Settled Quiet) → NoneLacks (net_of B.meaning self.new.plant.plant.graph)
+            self.new.plant self.new.ends.items }
     {
         for _turns in 0..u64::MAX {
             if self.serve(requests) {
@@ -135,13 +158,20 @@ impl<B: Block, R: Read, W: Write> Pipeline<B, R, W> {
         helpers: &mut H,
         readiness: &mut Q,
     ) -> Result<Option<Settled>, PipelineFault>
-        ensures goes { OnOk result (GoesOn R.remaining W.contents (net_of B.meaning self.old.plant.plant.graph) self.old.plant self.new.plant self.old.ends.items self.new.ends.items) }
-        ensures begins { OnErr result (Begins R.remaining W.contents (net_of B.meaning self.old.plant.plant.graph) self.old.plant self.new.plant self.old.ends.items self.new.ends.items) }
+        ensures goes { OnOk result (GoesOn R.remaining W.contents (net_of B.meaning self.old.plant.plant.graph)
+            self.old.plant self.new.plant self.old.ends.items self.new.ends.items) }
+        ensures begins { OnErr result (Begins R.remaining W.contents (net_of B.meaning self.old.plant.plant.graph)
+            self.old.plant self.new.plant self.old.ends.items self.new.ends.items) }
         ensures fault { IfErr result (IsFaultOf R.remaining self.new.ends.items) }
-        ensures settled { IfOk result (λ end. IfSome end (λ settled. HasSettled (net_of B.meaning self.new.plant.plant.graph) self.new.plant.plant.capacities self.new.plant.plant.state settled)) }
-        ensures whole { result ≡ Ok (Some Done) → IsWhole (net_of B.meaning self.new.plant.plant.graph) self.new.plant.plant.state }
-        ensures written { IfOk result (λ end. IfSome end (λ _. AreDelivered (net_of B.meaning self.new.plant.plant.graph) self.new.plant self.new.ends.items)) }
-        ensures asked { result ≡ Ok (Some Quiet) → NoneLacks (net_of B.meaning self.new.plant.plant.graph) self.new.plant self.new.ends.items }
+        ensures settled { IfOk result (λ end. IfSome end (λ settled. HasSettled
+            (net_of B.meaning self.new.plant.plant.graph) self.new.plant.plant.capacities self.new.plant.plant.state
+            settled)) }
+        ensures whole { result ≡ Ok (Some Done) → IsWhole (net_of B.meaning self.new.plant.plant.graph)
+            self.new.plant.plant.state }
+        ensures written { IfOk result (λ end. IfSome end (λ _. AreDelivered
+            (net_of B.meaning self.new.plant.plant.graph) self.new.plant self.new.ends.items)) }
+        ensures asked { result ≡ Ok (Some Quiet) → NoneLacks (net_of B.meaning self.new.plant.plant.graph)
+            self.new.plant self.new.ends.items }
     {
         self.advance(alloc, helpers, readiness, &NoRequests::new())
     }
@@ -154,13 +184,20 @@ impl<B: Block, R: Read, W: Write> Pipeline<B, R, W> {
         readiness: &mut Q,
         requests: &C,
     ) -> Result<Option<Settled>, PipelineFault>
-        ensures goes { OnOk result (GoesOn R.remaining W.contents (net_of B.meaning self.old.plant.plant.graph) self.old.plant self.new.plant self.old.ends.items self.new.ends.items) }
-        ensures begins { OnErr result (Begins R.remaining W.contents (net_of B.meaning self.old.plant.plant.graph) self.old.plant self.new.plant self.old.ends.items self.new.ends.items) }
+        ensures goes { OnOk result (GoesOn R.remaining W.contents (net_of B.meaning self.old.plant.plant.graph)
+            self.old.plant self.new.plant self.old.ends.items self.new.ends.items) }
+        ensures begins { OnErr result (Begins R.remaining W.contents (net_of B.meaning self.old.plant.plant.graph)
+            self.old.plant self.new.plant self.old.ends.items self.new.ends.items) }
         ensures fault { IfErr result (IsFaultOf R.remaining self.new.ends.items) }
-        ensures settled { IfOk result (λ end. IfSome end (λ settled. HasSettled (net_of B.meaning self.new.plant.plant.graph) self.new.plant.plant.capacities self.new.plant.plant.state settled)) }
-        ensures whole { result ≡ Ok (Some Done) → IsWhole (net_of B.meaning self.new.plant.plant.graph) self.new.plant.plant.state }
-        ensures written { IfOk result (λ end. IfSome end (λ _. AreDelivered (net_of B.meaning self.new.plant.plant.graph) self.new.plant self.new.ends.items)) }
-        ensures asked { result ≡ Ok (Some Quiet) → NoneLacks (net_of B.meaning self.new.plant.plant.graph) self.new.plant self.new.ends.items }
+        ensures settled { IfOk result (λ end. IfSome end (λ settled. HasSettled
+            (net_of B.meaning self.new.plant.plant.graph) self.new.plant.plant.capacities self.new.plant.plant.state
+            settled)) }
+        ensures whole { result ≡ Ok (Some Done) → IsWhole (net_of B.meaning self.new.plant.plant.graph)
+            self.new.plant.plant.state }
+        ensures written { IfOk result (λ end. IfSome end (λ _. AreDelivered
+            (net_of B.meaning self.new.plant.plant.graph) self.new.plant self.new.ends.items)) }
+        ensures asked { result ≡ Ok (Some Quiet) → NoneLacks (net_of B.meaning self.new.plant.plant.graph)
+            self.new.plant self.new.ends.items }
     {
         let blocks = self.plant.graph().len() as u32;
         let mut hearing = Hearing {
@@ -189,11 +226,14 @@ impl<B: Block, R: Read, W: Write> Pipeline<B, R, W> {
 
     // Writes all that the sinks have taken, and flushes the writers.
     fn write_all(&mut self) -> Result<(), PipelineFault>
-        ensures goes { OnOk result (GoesOn R.remaining W.contents (net_of B.meaning self.old.plant.plant.graph) self.old.plant self.new.plant self.old.ends.items self.new.ends.items) }
-        ensures begins { OnErr result (Begins R.remaining W.contents (net_of B.meaning self.old.plant.plant.graph) self.old.plant self.new.plant self.old.ends.items self.new.ends.items) }
+        ensures goes { OnOk result (GoesOn R.remaining W.contents (net_of B.meaning self.old.plant.plant.graph)
+            self.old.plant self.new.plant self.old.ends.items self.new.ends.items) }
+        ensures begins { OnErr result (Begins R.remaining W.contents (net_of B.meaning self.old.plant.plant.graph)
+            self.old.plant self.new.plant self.old.ends.items self.new.ends.items) }
         ensures fault { IfErr result (IsFaultOf R.remaining self.new.ends.items) }
         ensures same { self.new.plant.plant ≡ self.old.plant.plant }
-        ensures written { OnOk result (AreDelivered (net_of B.meaning self.new.plant.plant.graph) self.new.plant self.new.ends.items) }
+        ensures written { OnOk result (AreDelivered (net_of B.meaning self.new.plant.plant.graph) self.new.plant
+            self.new.ends.items) }
     {
         self.write(0)?;
         self.flush()
@@ -205,20 +245,25 @@ impl<B: Block, R: Read, W: Write> Pipeline<B, R, W> {
         alloc: Global,
         helpers: &mut H,
     ) -> Result<bool, PipelineFault>
-        ensures goes { GoesOn R.remaining W.contents (net_of B.meaning self.old.plant.plant.graph) self.old.plant self.new.plant self.old.ends.items self.new.ends.items }
+        ensures goes { GoesOn R.remaining W.contents (net_of B.meaning self.old.plant.plant.graph) self.old.plant
+            self.new.plant self.old.ends.items self.new.ends.items }
         ensures fault { IfErr result (λ fault. fault ≡ Memory) }
-        ensures moved { IfOk result (HasMoved (net_of B.meaning self.new.plant.plant.graph) self.new.plant.plant.capacities self.old.plant.plant.state self.new.plant.plant.state) }
+        ensures moved { IfOk result (HasMoved (net_of B.meaning self.new.plant.plant.graph)
+            self.new.plant.plant.capacities self.old.plant.plant.state self.new.plant.plant.state) }
     {
         Ok(self.plant.round_with(alloc, TURN, helpers)?)
     }
 
     // Writes what sinks have taken, of each sink with at least so many items in memory.
     fn write(&mut self, least: usize) -> Result<(), PipelineFault>
-        ensures goes { OnOk result (GoesOn R.remaining W.contents (net_of B.meaning self.old.plant.plant.graph) self.old.plant self.new.plant self.old.ends.items self.new.ends.items) }
-        ensures begins { OnErr result (Begins R.remaining W.contents (net_of B.meaning self.old.plant.plant.graph) self.old.plant self.new.plant self.old.ends.items self.new.ends.items) }
+        ensures goes { OnOk result (GoesOn R.remaining W.contents (net_of B.meaning self.old.plant.plant.graph)
+            self.old.plant self.new.plant self.old.ends.items self.new.ends.items) }
+        ensures begins { OnErr result (Begins R.remaining W.contents (net_of B.meaning self.old.plant.plant.graph)
+            self.old.plant self.new.plant self.old.ends.items self.new.ends.items) }
         ensures fault { IfErr result (IsFaultOf R.remaining self.new.ends.items) }
         ensures same { self.new.plant.plant ≡ self.old.plant.plant }
-        ensures written { least ≡ 0 → OnOk result (AreDelivered (net_of B.meaning self.new.plant.plant.graph) self.new.plant self.new.ends.items) }
+        ensures written { least ≡ 0 → OnOk result (AreDelivered (net_of B.meaning self.new.plant.plant.graph)
+            self.new.plant self.new.ends.items) }
     {
         for block in 0..self.plant.graph().len() {
             self.deliver(BlockId(block as u32), least)?;
@@ -228,12 +273,16 @@ impl<B: Block, R: Read, W: Write> Pipeline<B, R, W> {
 
     // Writes what a sink has taken, if it has an output and at least so many of its items are in memory.
     fn deliver(&mut self, block: BlockId, least: usize) -> Result<(), PipelineFault>
-        ensures goes { OnOk result (GoesOn R.remaining W.contents (net_of B.meaning self.old.plant.plant.graph) self.old.plant self.new.plant self.old.ends.items self.new.ends.items) }
-        ensures begins { OnErr result (Begins R.remaining W.contents (net_of B.meaning self.old.plant.plant.graph) self.old.plant self.new.plant self.old.ends.items self.new.ends.items) }
+        ensures goes { OnOk result (GoesOn R.remaining W.contents (net_of B.meaning self.old.plant.plant.graph)
+            self.old.plant self.new.plant self.old.ends.items self.new.ends.items) }
+        ensures begins { OnErr result (Begins R.remaining W.contents (net_of B.meaning self.old.plant.plant.graph)
+            self.old.plant self.new.plant self.old.ends.items self.new.ends.items) }
         ensures fault { IfErr result (IsFaultOf R.remaining self.new.ends.items) }
         ensures same { self.new.plant.plant ≡ self.old.plant.plant }
-        ensures own { least ≡ 0 → OnOk result (IsDelivered self.new.plant block.0 (end_at self.new.ends.items block.0)) }
-        ensures others { (b : ℕ) → (b ≡ block.0 → ⊥) → IsDelivered self.old.plant b (end_at self.old.ends.items b) → IsDelivered self.new.plant b (end_at self.new.ends.items b) }
+        ensures own { least ≡ 0 → OnOk result (IsDelivered self.new.plant block.0
+            (end_at self.new.ends.items block.0)) }
+        ensures others { (b : ℕ) → (b ≡ block.0 → ⊥) → IsDelivered self.old.plant b (end_at self.old.ends.items b)
+            → IsDelivered self.new.plant b (end_at self.new.ends.items b) }
     {
         if self.plant.items_in_memory(block) < least {
             return Ok(());
@@ -250,11 +299,14 @@ impl<B: Block, R: Read, W: Write> Pipeline<B, R, W> {
 
     // Flushes all writers.
     fn flush(&mut self) -> Result<(), PipelineFault>
-        ensures goes { OnOk result (GoesOn R.remaining W.contents (net_of B.meaning self.old.plant.plant.graph) self.old.plant self.new.plant self.old.ends.items self.new.ends.items) }
-        ensures begins { OnErr result (Begins R.remaining W.contents (net_of B.meaning self.old.plant.plant.graph) self.old.plant self.new.plant self.old.ends.items self.new.ends.items) }
+        ensures goes { OnOk result (GoesOn R.remaining W.contents (net_of B.meaning self.old.plant.plant.graph)
+            self.old.plant self.new.plant self.old.ends.items self.new.ends.items) }
+        ensures begins { OnErr result (Begins R.remaining W.contents (net_of B.meaning self.old.plant.plant.graph)
+            self.old.plant self.new.plant self.old.ends.items self.new.ends.items) }
         ensures fault { IfErr result (IsFaultOf R.remaining self.new.ends.items) }
         ensures same { self.new.plant ≡ self.old.plant }
-        ensures written { AreDelivered (net_of B.meaning self.old.plant.plant.graph) self.old.plant self.old.ends.items → AreDelivered (net_of B.meaning self.new.plant.plant.graph) self.new.plant self.new.ends.items }
+        ensures written { AreDelivered (net_of B.meaning self.old.plant.plant.graph) self.old.plant self.old.ends.items
+            → AreDelivered (net_of B.meaning self.new.plant.plant.graph) self.new.plant self.new.ends.items }
     {
         for block in 0..self.plant.graph().len() {
             self.flush_own(BlockId(block as u32))?;
@@ -264,11 +316,14 @@ impl<B: Block, R: Read, W: Write> Pipeline<B, R, W> {
 
     // Flushes the writers of one sink.
     fn flush_own(&mut self, block: BlockId) -> Result<(), PipelineFault>
-        ensures goes { OnOk result (GoesOn R.remaining W.contents (net_of B.meaning self.old.plant.plant.graph) self.old.plant self.new.plant self.old.ends.items self.new.ends.items) }
-        ensures begins { OnErr result (Begins R.remaining W.contents (net_of B.meaning self.old.plant.plant.graph) self.old.plant self.new.plant self.old.ends.items self.new.ends.items) }
+        ensures goes { OnOk result (GoesOn R.remaining W.contents (net_of B.meaning self.old.plant.plant.graph)
+            self.old.plant self.new.plant self.old.ends.items self.new.ends.items) }
+        ensures begins { OnErr result (Begins R.remaining W.contents (net_of B.meaning self.old.plant.plant.graph)
+            self.old.plant self.new.plant self.old.ends.items self.new.ends.items) }
         ensures fault { IfErr result (IsFaultOf R.remaining self.new.ends.items) }
         ensures same { self.new.plant ≡ self.old.plant }
-        ensures written { AreDelivered (net_of B.meaning self.old.plant.plant.graph) self.old.plant self.old.ends.items → AreDelivered (net_of B.meaning self.new.plant.plant.graph) self.new.plant self.new.ends.items }
+        ensures written { AreDelivered (net_of B.meaning self.old.plant.plant.graph) self.old.plant self.old.ends.items
+            → AreDelivered (net_of B.meaning self.new.plant.plant.graph) self.new.plant self.new.ends.items }
     {
         let at = block.0 as usize;
         if self.ends.len() <= at {
@@ -283,8 +338,10 @@ impl<B: Block, R: Read, W: Write> Pipeline<B, R, W> {
     // Takes in a piece from the reader of the source that is fed next.
     fn take_in(&mut self, block: BlockId) -> Result<(), PipelineFault>
         requires { IsNext (net_of B.meaning self.old.plant.plant.graph) self.old.plant self.old.ends.items block.0 }
-        ensures goes { OnOk result (GoesOn R.remaining W.contents (net_of B.meaning self.old.plant.plant.graph) self.old.plant self.new.plant self.old.ends.items self.new.ends.items) }
-        ensures begins { OnErr result (Begins R.remaining W.contents (net_of B.meaning self.old.plant.plant.graph) self.old.plant self.new.plant self.old.ends.items self.new.ends.items) }
+        ensures goes { OnOk result (GoesOn R.remaining W.contents (net_of B.meaning self.old.plant.plant.graph)
+            self.old.plant self.new.plant self.old.ends.items self.new.ends.items) }
+        ensures begins { OnErr result (Begins R.remaining W.contents (net_of B.meaning self.old.plant.plant.graph)
+            self.old.plant self.new.plant self.old.ends.items self.new.ends.items) }
         ensures fault { IfErr result (IsFaultOf R.remaining self.new.ends.items) }
     {
         let at = block.0 as usize;

@@ -14,7 +14,8 @@ use streaming::{Closed, Levels, Settled, Taken};
 /// A request: a call of the plant, or that the run is to end.
 #[derive(Debug, Drop)]
 pub enum Request {
-    /// Set the value of a block's setting from item `at` of its first input on, or from the first that it has not taken.
+    /// Set the value of a block's setting from item `at` of its first input on, or from the first that it has not
+    /// taken.
     Set {
         block: BlockId,
         at: Option<u64>,

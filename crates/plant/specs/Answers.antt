@@ -33,8 +33,8 @@ abbrev pub reply_of : {R : Type 0} → (R → Reply) → Result R PlantFault →
 reply_of ok (Ok r) = Some (ok r)
 reply_of ok (Err e) = refusal_of e
 
--- whether a call that is so answered stores or gives items, tags, a setting or a job, for which memory may run out; no other reply needs any.
--- (A commit that stands for itself takes none, and is not answered so.)
+-- whether a call that is so answered stores or gives items, tags, a setting or a job, for which memory may run out; no
+-- other reply needs any. (A commit that stands for itself takes none, and is not answered so.)
 abbrev pub takes_memory : Reply → Bool
 takes_memory (machine.Fed total) = true
 takes_memory (machine.Taken at) = true
@@ -43,7 +43,8 @@ takes_memory (machine.Did count) = true
 takes_memory (machine.Piece from held items tags done) = true
 takes_memory _ = false
 
--- a call took a plant from one state to the next: it answered as the machine does now, or was out of memory, and nothing changed
+-- a call took a plant from one state to the next: it answered as the machine does now, or was out of memory, and
+-- nothing changed
 abbrev pub Answered : {B : Type 0} → Reply × State → PlantState B → PlantState B → Option Reply → Type 0
 Answered now old new None = (takes_memory now.0 ≡ true) × (new ≡ old)
 Answered now old new (Some reply) = (reply ≡ now.0) × (new ≡ record old { state = now.1 })
@@ -90,7 +91,8 @@ IsOf g claim.Busy = ⊤
 IsOf g (claim.Waiting need) = ⊤
 
 -- a job that was handed in was taken back, or it is returned and nothing changed, as the machine says
-abbrev pub IsTaken : {B R J : Type 0} → (R → Reply) → Reply × State → PlantState B → PlantState B → J → Result R J → Type 0
+abbrev pub IsTaken : {B R J : Type 0} → (R → Reply) → Reply × State → PlantState B → PlantState B → J → Result R J
+    → Type 0
 IsTaken ok now old new job (Ok r) = (now.0 ≡ ok r) × (new ≡ record old { state = now.1 })
 IsTaken ok now old new job (Err back) = (now.0 ≡ Refused machine.foreign) × (back ≡ job) × (new ≡ old)
 

@@ -11,12 +11,13 @@ use Rattle.firing_rules.specs.declared.progress.Tape.{Tape}
 use Rattle.plant.specs.declared.fault.PlantFault.{PlantFault}
 use Rattle.plant.specs.declared.fault.PlantFault.TheVariants.{Closed, TagPlace, TapeFull}
 
--- how long a tape is with so many items more, or the first reason why they and their marks cannot be put on it: it is closed, a mark
--- lies on none of them, it would be longer than it may be
+-- how long a tape is with so many items more, or the first reason why they and their marks cannot be put on it: it is
+-- closed, a mark lies on none of them, it would be longer than it may be
 abbrev pub length_with : Tape → ℕ → ℕ → List Mark → Result ℕ PlantFault
 length_with tape longest count ms =
     if tape.closed then Err Closed
-    else (if not (list_all (λ m. nat_le tape.length m.offset && nat_lt m.offset (tape.length + count)) ms) then Err TagPlace
+    else (if not (list_all (λ m. nat_le tape.length m.offset && nat_lt m.offset (tape.length + count)) ms) then Err
+    TagPlace
     else (if nat_lt longest (tape.length + count) then Err TapeFull
     else Ok (tape.length + count)))
 
@@ -28,9 +29,13 @@ are_items t xs = list_all (λ z. int_le (least_of t) z && int_le z (greatest_of 
 abbrev pub given_type : Network → ℕ → ItemType
 given_type net b = (node_at net b).meaning.outputs.item
 
--- numbers are fed as items of the source's type; where one is outside its range they are refused, before anything else that a
--- source refuses
+-- numbers are fed as items of the source's type; where one is outside its range they are refused, before anything else
+-- that a source refuses
 abbrev pub feed_numbers : Network → State → ℕ → List ℤ → List Mark → Reply × State
 feed_numbers net st b xs ms =
-    if nat_lt b (length net.nodes) && (is_source (role_at net b) && not (are_items (given_type net b) xs)) then (Refused machine.item_range, st)
+    if nat_lt b (length net.nodes) && (is_source (role_at net b) && not (are_items (given_type net b) xs)) then (
+      Refused
+          machine.item_range,
+      st,
+    )
     else machine.feed_of net st b (given_type net b) xs ms

@@ -12,12 +12,14 @@ use Rattle.plant.specs.declared.fault.PlantFault.TheVariants.{NoSuchBlock, NoSuc
 
 -- why nothing is reported of output p of block b, if so: there is no such block, or it does not use such an output
 abbrev pub port_fault : Network → ℕ → ℕ → Option PlantFault
-port_fault net b p = if not (nat_lt b (length net.nodes)) then Some NoSuchBlock else (if not (nat_lt p (used_outputs net b)) then Some NoSuchPort else None)
+port_fault net b p = if not (nat_lt b (length net.nodes)) then Some
+    NoSuchBlock else (if not (nat_lt p (used_outputs net b)) then Some NoSuchPort else None)
 
--- behind the slowest live reader: as many items as its capacity and the greatest past of its readers ask, and as many tags as the stream has on items from
--- that reader's place on
+-- behind the slowest live reader: as many items as its capacity and the greatest past of its readers ask, and as many
+-- tags as the stream has on items from that reader's place on
 pub record KeepsBehind (net : Network) (caps : Capacities) (st : State) (b p place : ℕ) (kept : Stored) : Type 0 where
-  pub items : kept.items ≡ min (given_by (node_at net b) (fired st b)) (most_kept (capacity_at caps b p) (greatest_history net b p))
+  pub items : kept.items ≡ min (given_by (node_at net b) (fired st b))
+      (most_kept (capacity_at caps b p) (greatest_history net b p))
   pub unread : given_by (node_at net b) (fired st b) - place ≤ kept.items
   pub tags : kept.tags ≡ length (tags_within place (given_by (node_at net b) (fired st b)) (tags_of net st.handed b p))
 

@@ -24,8 +24,8 @@ IsLentEnough meaning p b k next =
 abbrev pub LosesNone : {B P : Type 0} → (B → Meaning) → Parts B P → Parts B P → Type 0
 LosesNone meaning old new = (b k next : ℕ) → IsLentEnough meaning old b k next → IsLentEnough meaning new b k next
 
--- these firings need no memory: their block has no settings, what it was lent suffices, and there is room for the tags on the items that they take
--- and, of a sink, for these items
+-- these firings need no memory: their block has no settings, what it was lent suffices, and there is room for the tags
+-- on the items that they take and, of a sink, for these items
 pub record NeedsNone {B P : Type 0} (meaning : B → Meaning) (p : Parts B P) (b first count : ℕ) : Type 0 where
   pub settings : timeline_at (stored_in p.stores) b ≡ None
   pub lent : IsLentEnough meaning p b first (first + count)
@@ -36,7 +36,8 @@ abbrev pub HoldsJob : {B P : Type 0} → Network → Parts B P → Job → Type 
 HoldsJob net p job =
     (d : Lent) → let lent = slice_index_or p.lent.items job.block d in
     let n = node_at net job.block in
-    (map numbers_of lent.windows.items ≡ job.windows) × All (IsReady n.meaning (n.multiple * job.first) (n.multiple * job.count)) lent.outputs.items
+    (map numbers_of lent.windows.items ≡ job.windows) × All (IsReady n.meaning (n.multiple * job.first)
+    (n.multiple * job.count)) lent.outputs.items
 
 -- what a job was lent lies there after its work: with these items in windows and outputs
 abbrev pub HoldsWork : {B P : Type 0} → Parts B P → ℕ → List (List ℤ) → List (List ℤ) → Type 0

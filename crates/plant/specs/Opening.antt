@@ -12,10 +12,15 @@ use Rattle.plant_storage.specs.declared.intake.Intake.{Intake}
 use Rattle.plant.specs.Plant.{PlantState}
 use Rattle.plant.specs.declared.opening.Fresh.{Fresh}
 
--- of a graph nothing is fed and nothing fired, and a tape may come to hold so many items; the capacities are those of the graph's balance
+-- of a graph nothing is fed and nothing fired, and a tape may come to hold so many items; the capacities are those of
+-- the graph's balance
 abbrev pub opening_plant_within : {B : Type 0} → ℕ → (B → Meaning) → Flowgraph B → PlantState B
 opening_plant_within longest meaning graph =
-    let net = net_of meaning graph in record { graph = graph; capacities = capacities_of net (balance_of net); state = opening_within longest net }
+    let net = net_of meaning graph in record {
+      graph = graph;
+      capacities = capacities_of net (balance_of net);
+      state = opening_within longest net;
+    }
 
 abbrev pub opening_plant : {B : Type 0} → (B → Meaning) → Flowgraph B → PlantState B
 opening_plant meaning graph = opening_plant_within longest_tape meaning graph

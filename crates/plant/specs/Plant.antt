@@ -30,7 +30,8 @@ pub record PlantState (B : Type 0) : Type 0 where
   pub capacities : Capacities
   pub state : State
 
--- the state is sound, no path makes too much of a tape, what is stored is what its streams say, and for each claim in flight there is room for its commit
+-- the state is sound, no path makes too much of a tape, what is stored is what its streams say, and for each claim in
+-- flight there is room for its commit
 pub record Keeps (net : Network) (caps : Capacities) (s : Stores) (progress : List Progress) : Type 0 where
   pub sound : Sound net caps (state_of s.handed.items progress)
   pub gain : AreWithinGain net (state_of s.handed.items progress).handed
@@ -48,17 +49,26 @@ pub record KeepsBut (net : Network) (caps : Capacities) (s : Stores) (progress :
 
 -- what the parts of a plant stand for
 abbrev pub plant_of : {B P : Type 0} → Parts B P → PlantState B
-plant_of p = record { graph = arc_value p.graph; capacities = sizes_of p.capacities; state = state_of p.stores.handed.items p.firings }
+plant_of p = record {
+  graph = arc_value p.graph;
+  capacities = sizes_of p.capacities;
+  state = state_of
+      p.stores.handed.items p.firings;
+}
 
--- the first items that are kept, and those at which settings may still be read, and for each block the most items that its tape may come to hold, and whether
--- that is shared with nobody
+-- the first items that are kept, and those at which settings may still be read, and for each block the most items that
+-- its tape may come to hold, and whether that is shared with nobody
 pub record Spans : Type 0 where
   pub firsts : Firsts
   pub longest : List ℕ
   pub own : List Bool
 
 abbrev pub spans_of : Stores → Spans
-spans_of s = record { firsts = firsts_of (stored_in s); longest = map (λ (h : Intake). h.longest) s.handed.items; own = map (λ (h : Intake). is_own h.tape) s.handed.items }
+spans_of s = record {
+  firsts = firsts_of (stored_in s);
+  longest = map (λ (h : Intake). h.longest) s.handed.items;
+  own = map (λ (h : Intake). is_own h.tape) s.handed.items;
+}
 
 abbrev pub spans_in : {B P : Type 0} → Parts B P → Spans
 spans_in p = spans_of p.stores
@@ -74,7 +84,8 @@ pub record KeepsAll (spans : Spans) : Type 0 where
   pub whole : ForgetsNone spans.firsts
   pub short : All (λ n. n ≤ longest_tape) spans.longest
 
--- what never changes: the rates and the capacities are the graph's, and each block has a place for what its jobs are lent
+-- what never changes: the rates and the capacities are the graph's, and each block has a place for what its jobs are
+-- lent
 pub record IsBuilt {B P : Type 0} (meaning : B → Meaning) (p : Parts B P) : Type 0 where
   pub rates : AreRates (net_of meaning (arc_value p.graph)) p.rates
   pub capacities : sizes_of p.capacities ≡ capacities_of (net_of meaning (arc_value p.graph)) (answer_of p.rates)
@@ -112,7 +123,8 @@ pub record IsItsWork (net : Network) (st : State) (b : ℕ) (windows outputs : L
 abbrev pub IsLentTo : {B P : Type 0} → (B → Meaning) → Parts B P → ℕ → ℕ → ℕ → Type 0
 IsLentTo meaning p b first count =
     (d : Lent) → let lent = slice_index_or p.lent.items b d in
-    IsLent (net_of meaning (arc_value p.graph)) (stored_in p.stores) b first count lent.windows.items lent.held.items lent.outputs.items
+    IsLent (net_of meaning (arc_value p.graph)) (stored_in p.stores) b first count lent.windows.items lent.held.items
+    lent.outputs.items
 
 -- there lies what came of the work of its claim in flight
 abbrev pub IsDoneBy : {B P : Type 0} → (B → Meaning) → Parts B P → ℕ → ℕ → Type 0
@@ -122,11 +134,14 @@ IsDoneBy meaning p b word =
 
 -- the state once the claim in flight of block b is committed, or given up
 abbrev pub with_claim_done : State → ℕ → State
-with_claim_done st b = let s = progress_at st.progress b in with_progress st b (record s { firings = s.firings + s.claimed; claimed = 0 })
+with_claim_done st b = let s = progress_at st.progress b in with_progress st b
+    (record s { firings = s.firings + s.claimed; claimed = 0 })
 
 abbrev pub without_claim : State → ℕ → State
 without_claim st b = with_progress st b (record (progress_at st.progress b) { claimed = 0 })
 
--- a network at rest, where the rates are balanced and each tape is closed: each block is done, and each sink holds its whole stream
+-- a network at rest, where the rates are balanced and each tape is closed: each block is done, and each sink holds its
+-- whole stream
 abbrev pub IsSettled : Network → State → Type 0
-IsSettled net st = (q : List ℕ) → balance_of net ≡ Balanced q → AreClosed net st → (is_all_done st ≡ true) × IsWhole net st
+IsSettled net st = (q : List ℕ) → balance_of net ≡ Balanced q → AreClosed net st → (is_all_done st ≡ true)
+    × IsWhole net st

@@ -12,7 +12,8 @@ pub record Made : Type 0 where
 
 -- work that was handed in was taken back as by the machine, or returned and nothing changed
 abbrev pub IsBroughtBack : {B : Type 0} → Reply × State → PlantState B → PlantState B → Option Reply → Type 0
-IsBroughtBack now old new reply = AnsweredAlways now old new reply ⊎ ((reply ≡ Some (Refused foreign)) × (now.0 ≡ Refused foreign) × (new ≡ old))
+IsBroughtBack now old new reply = AnsweredAlways now old new reply
+    ⊎ ((reply ≡ Some (Refused foreign)) × (now.0 ≡ Refused foreign) × (new ≡ old))
 
 -- what the contract of each call says of the plant before it, the plant behind it, and its reply
 abbrev pub Says : {B : Type 0} → Call → Reply × State → PlantState B → PlantState B → Option Reply → Type 0
@@ -27,7 +28,8 @@ Says (Read b from max) now old new reply = AnsweredBy now reply × (new ≡ old)
 -- these calls were made on a plant of the network, one after another, and left the new one
 abbrev pub Leads : {B : Type 0} → Network → PlantState B → List Made → PlantState B → Type 0
 Leads net old [] new = new ≡ old
-Leads {B} net old (m ∷ ms) new = (mid : PlantState B) × Says m.call (next net old.capacities old.state m.call) old mid m.reply × Leads net mid ms new
+Leads {B} net old (m ∷ ms) new = (mid : PlantState B) × Says m.call (next net old.capacities old.state m.call) old mid
+    m.reply × Leads net mid ms new
 
 -- the calls that were not out of memory, and their replies
 abbrev pub with_call : Option Reply → Call → List Call → List Call
@@ -47,6 +49,7 @@ replies_to [] = []
 replies_to (m ∷ ms) = with_reply m.reply (replies_to ms)
 
 -- they are a run of the machine: replies and state are those of the calls that were not out of memory
-pub record IsRun {B : Type 0} (net : Network) (old : PlantState B) (made : List Made) (new : PlantState B) : Type 0 where
-  pub replies : replies_to made ≡ (run_of net old.capacities old.state (answered_calls made)).0
-  pub left : new ≡ record old { state = (run_of net old.capacities old.state (answered_calls made)).1 }
+pub record IsRun {B : Type 0} (net : Network) (old : PlantState B) (made : List Made) (new : PlantState B) : Type 0
+  where
+    pub replies : replies_to made ≡ (run_of net old.capacities old.state (answered_calls made)).0
+    pub left : new ≡ record old { state = (run_of net old.capacities old.state (answered_calls made)).1 }

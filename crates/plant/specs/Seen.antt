@@ -27,11 +27,13 @@ pub record CanSee (rows : List (List BufferState)) (n : Node) (first next p : �
 
 -- so has each
 abbrev pub CanSeeAll : List (List BufferState) → Node → ℕ → ℕ → List Input → Type 0
-CanSeeAll rows n first next is = (p : ℕ) (d : Input) → p < length is → CanSee rows n first next p (slice_index_or is p d)
+CanSeeAll rows n first next is = (p : ℕ) (d : Input) → p < length is
+    → CanSee rows n first next p (slice_index_or is p d)
 
 -- the buffers at the inputs hold the ends of these streams
 abbrev pub AreEnds : List (List BufferState) → List Input → (ℕ → List ℤ) → Type 0
-AreEnds rows is streams = (p : ℕ) (d : Input) → p < length is → IsEndOf (ring_behind rows (slice_index_or is p d)) (streams p)
+AreEnds rows is streams = (p : ℕ) (d : Input) → p < length is → IsEndOf (ring_behind rows (slice_index_or is p d))
+    (streams p)
 
 -- what the reader at input p sees of a stream with the items of these firings
 abbrev pub seen_of : List (List BufferState) → Node → ℕ → ℕ → ℕ → Input → List ℤ → List ℤ
@@ -41,6 +43,8 @@ seen_of rows n first next p i stream =
     window stream (past_of ring i.reader) place (place + (taken_by n p next - taken_by n p first))
 
 -- a window for each input: what its reader sees
-pub record AreSeen (rows : List (List BufferState)) (n : Node) (first next : ℕ) (is : List Input) (streams : ℕ → List ℤ) (windows : List (List ℤ)) : Type 0 where
+pub record AreSeen (rows : List (List BufferState)) (n : Node) (first next : ℕ) (is : List Input) (streams : ℕ → List ℤ)
+    (windows : List (List ℤ)) : Type 0 where
   pub many : length windows ≡ length is
-  pub seen : (p : ℕ) (d : Input) → p < length is → input windows p ≡ seen_of rows n first next p (slice_index_or is p d) (streams p)
+  pub seen : (p : ℕ) (d : Input) → p < length is → input windows p ≡ seen_of rows n first next p (slice_index_or is p d)
+      (streams p)

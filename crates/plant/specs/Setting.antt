@@ -19,4 +19,5 @@ unwanted (Some w) v = if is_wanted w v then None else Some WrongSetting
 
 -- why block b does not take this value as its setting, if it does not
 abbrev pub setting_fault : Network → ℕ → Value → Option PlantFault
-setting_fault net b v = if not (nat_lt b (length net.nodes)) then Some NoSuchBlock else unwanted (node_at net b).meaning.setting v
+setting_fault net b v = if not (nat_lt b (length net.nodes)) then Some NoSuchBlock else unwanted
+    (node_at net b).meaning.setting v

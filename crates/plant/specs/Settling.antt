@@ -15,14 +15,16 @@ steps_of net caps max st (b ∷ bs) = steps_of net caps max (step_of net caps st
 
 -- steps of blocks that there are led from one state to the other
 abbrev pub StepsLead : Network → Capacities → ℕ → State → State → Type 0
-StepsLead net caps max old new = (bs : List ℕ) × All (λ b. b < length net.nodes) bs × (new ≡ steps_of net caps max old bs)
+StepsLead net caps max old new = (bs : List ℕ) × All (λ b. b < length net.nodes) bs
+    × (new ≡ steps_of net caps max old bs)
 
 -- each block is done, or the network is quiet and a block is not
 abbrev pub HasSettled : Network → Capacities → State → Settled → Type 0
 HasSettled net caps st Done = is_all_done st ≡ true
 HasSettled net caps st Quiet = (is_all_done st ≡ false) × (is_quiet net caps st ≡ true)
 
--- with each block done, each sink holds its whole stream; a block that is not done at rest has rates without a balance, or an open tape
+-- with each block done, each sink holds its whole stream; a block that is not done at rest has rates without a balance,
+-- or an open tape
 abbrev pub HoldsSettled : Network → State → Settled → Type 0
 HoldsSettled net st Done = IsWhole net st
 HoldsSettled net st Quiet = (q : List ℕ) → balance_of net ≡ Balanced q → AreClosed net st → ⊥

@@ -32,7 +32,8 @@ impl<B: Block> Parts<B> {
         requires some { 1 ≤ max }
         ensures right { IsRight B.meaning self.new }
         ensures spans { spans_in self.new ≡ spans_in self.old }
-        ensures answered { let old = plant_of self.old in Answered (next (net_of B.meaning old.graph) old.capacities old.state (machine.Claim block.0 max)) old (plant_of self.new) (reply_of claim_reply result) }
+        ensures answered { let old = plant_of self.old in Answered (next (net_of B.meaning old.graph) old.capacities
+            old.state (machine.Claim block.0 max)) old (plant_of self.new) (reply_of claim_reply result) }
         ensures of_graph { IfOk result (IsOf (plant_of self.old).graph) }
     {
         self.graph.recall();
@@ -56,11 +57,14 @@ impl<B: Block> Parts<B> {
         requires some { 1 ≤ max }
         ensures right { IsRight B.meaning self.new }
         ensures spans { spans_in self.new ≡ spans_in self.old }
-        ensures answered { let old = plant_of self.old in Answered (step_of (net_of B.meaning old.graph) old.capacities old.state block.0 max) old (plant_of self.new) (reply_of step_reply result) }
+        ensures answered { let old = plant_of self.old in Answered (step_of (net_of B.meaning old.graph) old.capacities
+            old.state block.0 max) old (plant_of self.new) (reply_of step_reply result) }
         ensures succeeds { let old = plant_of self.old in
             let net = net_of B.meaning old.graph in
             let counts = counts_of net old.capacities old.state block.0 in
-            (count : ℕ) → claims.decide (node_at net block.0) counts max ≡ claims.Fires count → NeedsNone B.meaning self.old block.0 counts.firings count → block.0 < length old.graph.blocks → IsOk result }
+            (count : ℕ) → claims.decide (node_at net block.0) counts max ≡ claims.Fires count
+            → NeedsNone B.meaning self.old block.0 counts.firings count → block.0 < length old.graph.blocks
+            → IsOk result }
         ensures keeps { LosesNone B.meaning self.old self.new }
     {
         self.graph.recall();
@@ -86,7 +90,8 @@ impl<B: Block> Parts<B> {
             let net = net_of B.meaning old.graph in
             let counts = counts_of net old.capacities old.state block.0 in
             result ≡ answer_of counts.firings (claims.decide (node_at net block.0) counts max) }
-        ensures state { let old = plant_of self.old in plant_of self.new ≡ record old { state = (claim_of (net_of B.meaning old.graph) old.capacities old.state block.0 max).1 } }
+        ensures state { let old = plant_of self.old in plant_of self.new
+            ≡ record old { state = (claim_of (net_of B.meaning old.graph) old.capacities old.state block.0 max).1 } }
         ensures right { IsRightBut B.meaning self.new block.0 }
         ensures spans { spans_in self.new ≡ spans_in self.old }
         ensures rest { is_claimed result ≡ false → IsRight B.meaning self.new }
@@ -116,13 +121,16 @@ impl<B: Block> Parts<B> {
         count: u32,
     ) -> Result<Job<B>, AllocError>
         requires right { IsRightBut B.meaning self.old block.0 }
-        requires flight { let old = plant_of self.old in IsFlight (net_of B.meaning old.graph) old.state block.0 first count }
+        requires flight { let old = plant_of self.old in IsFlight (net_of B.meaning old.graph) old.state block.0 first
+            count }
         ensures right { IsRight B.meaning self.new }
         ensures spans { spans_in self.new ≡ spans_in self.old }
         ensures graph { IfOk result (λ job. job.graph ≡ (plant_of self.old).graph) }
-        ensures job { let old = plant_of self.old in IfOk result (λ job. job.job ≡ in_flight (net_of B.meaning old.graph) old.state block.0) }
+        ensures job { let old = plant_of self.old in IfOk result (λ job. job.job
+            ≡ in_flight (net_of B.meaning old.graph) old.state block.0) }
         ensures same { OnOk result (plant_of self.new ≡ plant_of self.old) }
-        ensures given_up { let old = plant_of self.old in OnErr result (plant_of self.new ≡ record old { state = without_claim old.state block.0 }) }
+        ensures given_up { let old = plant_of self.old in OnErr result
+            (plant_of self.new ≡ record old { state = without_claim old.state block.0 }) }
     {
         self.graph.recall();
         match self.made_job(alloc, block, first, count) {
@@ -142,13 +150,15 @@ impl<B: Block> Parts<B> {
         count: u32,
     ) -> Result<Job<B>, AllocError>
         requires right { IsRightBut B.meaning self.old block.0 }
-        requires flight { let old = plant_of self.old in IsFlight (net_of B.meaning old.graph) old.state block.0 first count }
+        requires flight { let old = plant_of self.old in IsFlight (net_of B.meaning old.graph) old.state block.0 first
+            count }
         ensures same { plant_of self.new ≡ plant_of self.old }
         ensures right { IsRightBut B.meaning self.new block.0 }
         ensures spans { spans_in self.new ≡ spans_in self.old }
         ensures room { OnOk result (IsRight B.meaning self.new) }
         ensures graph { IfOk result (λ job. job.graph ≡ (plant_of self.old).graph) }
-        ensures job { let old = plant_of self.old in IfOk result (λ job. job.job ≡ in_flight (net_of B.meaning old.graph) old.state block.0) }
+        ensures job { let old = plant_of self.old in IfOk result (λ job. job.job
+            ≡ in_flight (net_of B.meaning old.graph) old.state block.0) }
     {
         self.graph.recall();
         let graph = Arc::try_clone(&self.graph)?;
@@ -165,7 +175,8 @@ impl<B: Block> Parts<B> {
         }))
     }
 
-    // Does the firings of the claim in flight of a block and commits them. If it is out of memory the claim is given up.
+    // Does the firings of the claim in flight of a block and commits them. If it is out of memory the claim is given
+    // up.
     fn fire(
         &mut self,
         alloc: Global,
@@ -174,13 +185,16 @@ impl<B: Block> Parts<B> {
         count: u32,
     ) -> Result<(), AllocError>
         requires right { IsRightBut B.meaning self.old block.0 }
-        requires flight { let old = plant_of self.old in IsFlight (net_of B.meaning old.graph) old.state block.0 first count }
+        requires flight { let old = plant_of self.old in IsFlight (net_of B.meaning old.graph) old.state block.0 first
+            count }
         ensures right { IsRight B.meaning self.new }
         ensures spans { spans_in self.new ≡ spans_in self.old }
-        ensures fired { let old = plant_of self.old in OnOk result (plant_of self.new ≡ record old { state = with_claim_done old.state block.0 }) }
+        ensures fired { let old = plant_of self.old in OnOk result (plant_of self.new
+            ≡ record old { state = with_claim_done old.state block.0 }) }
         ensures succeeds { NeedsNone B.meaning self.old block.0 first count → IsOk result }
         ensures keeps { LosesNone B.meaning self.old self.new }
-        ensures given_up { let old = plant_of self.old in OnErr result (plant_of self.new ≡ record old { state = without_claim old.state block.0 }) }
+        ensures given_up { let old = plant_of self.old in OnErr result
+            (plant_of self.new ≡ record old { state = without_claim old.state block.0 }) }
     {
         self.graph.recall();
         match self.lend(alloc, block, first, count) {
@@ -199,7 +213,8 @@ impl<B: Block> Parts<B> {
     // Does the work of a block's claim in flight on what the block was lent, and returns the state word after it.
     fn work(&mut self, block: BlockId, first: u64, count: u32) -> u64
         requires right { IsRight B.meaning self.old }
-        requires flight { let old = plant_of self.old in IsFlight (net_of B.meaning old.graph) old.state block.0 first count }
+        requires flight { let old = plant_of self.old in IsFlight (net_of B.meaning old.graph) old.state block.0 first
+            count }
         requires lent { IsLentTo B.meaning self.old block.0 first count }
         ensures right { IsRight B.meaning self.new }
         ensures spans { spans_in self.new ≡ spans_in self.old }
@@ -230,7 +245,8 @@ impl<B: Block> Parts<B> {
         count: u32,
     ) -> Result<(), AllocError>
         requires right { IsRightBut B.meaning self.old block.0 }
-        requires flight { let old = plant_of self.old in IsFlight (net_of B.meaning old.graph) old.state block.0 first count }
+        requires flight { let old = plant_of self.old in IsFlight (net_of B.meaning old.graph) old.state block.0 first
+            count }
         ensures same { plant_of self.new ≡ plant_of self.old }
         ensures right { IsRightBut B.meaning self.new block.0 }
         ensures spans { spans_in self.new ≡ spans_in self.old }

@@ -23,7 +23,8 @@ impl<B: Block> Parts<B> {
         ensures right { IsRight B.meaning self.new }
         ensures spans { spans_in self.new ≡ spans_in self.old }
         ensures taken { let old = plant_of self.old in
-            IsTaken (λ d. machine.Did d.0) (commit_of (net_of B.meaning old.graph) old.state (is_own B.eq old.graph worked.graph worked.job.block) worked.job) old (plant_of self.new) worked result }
+            IsTaken (λ d. machine.Did d.0) (commit_of (net_of B.meaning old.graph) old.state
+            (is_own B.eq old.graph worked.graph worked.job.block) worked.job) old (plant_of self.new) worked result }
         ensures kept { OnOk result (HoldsWork self.new worked.job.block worked.job.windows worked.outputs) }
     {
         self.graph.recall();
@@ -46,7 +47,8 @@ impl<B: Block> Parts<B> {
         ensures right { IsRight B.meaning self.new }
         ensures spans { spans_in self.new ≡ spans_in self.old }
         ensures taken { let old = plant_of self.old in
-            IsTaken (λ u. machine.Abandoned) (abandon_of (net_of B.meaning old.graph) old.state (is_own B.eq old.graph job.graph job.job.block) job.job) old (plant_of self.new) job result }
+            IsTaken (λ u. machine.Abandoned) (abandon_of (net_of B.meaning old.graph) old.state
+            (is_own B.eq old.graph job.graph job.job.block) job.job) old (plant_of self.new) job result }
         ensures kept { OnOk result (HoldsJob (net_of B.meaning job.graph) self.new job.job) }
     {
         self.graph.recall();
@@ -62,11 +64,13 @@ impl<B: Block> Parts<B> {
     /// Commits a block's claim in flight. The result of its work lies in the places that the block was lent.
     pub fn store(&mut self, block: BlockId, first: u64, count: u32, word: u64)
         requires right { IsRight B.meaning self.old }
-        requires flight { let old = plant_of self.old in IsFlight (net_of B.meaning old.graph) old.state block.0 first count }
+        requires flight { let old = plant_of self.old in IsFlight (net_of B.meaning old.graph) old.state block.0 first
+            count }
         requires work { IsDoneBy B.meaning self.old block.0 word }
         ensures right { IsRight B.meaning self.new }
         ensures spans { spans_in self.new ≡ spans_in self.old }
-        ensures state { let old = plant_of self.old in plant_of self.new ≡ record old { state = with_claim_done old.state block.0 } }
+        ensures state { let old = plant_of self.old in plant_of self.new
+            ≡ record old { state = with_claim_done old.state block.0 } }
         ensures lent { self.new.lent.items ≡ self.old.lent.items }
     {
         self.graph.recall();

@@ -34,7 +34,9 @@ impl<B: Block> Parts<B> {
         requires { IsRight B.meaning self.old }
         ensures right { IsRight B.meaning self.new }
         ensures spans { spans_in self.new ≡ spans_in self.old }
-        ensures answered { let old = plant_of self.old in AnsweredAlways (close_of (net_of B.meaning old.graph) old.state source.0) old (plant_of self.new) (reply_of (λ c. machine.Closed c.0) result) }
+        ensures answered { let old = plant_of self.old in AnsweredAlways
+            (close_of (net_of B.meaning old.graph) old.state source.0) old (plant_of self.new)
+            (reply_of (λ c. machine.Closed c.0) result) }
     {
         self.graph.recall();
         source_type(&self.graph, source)?;
@@ -57,7 +59,9 @@ impl<B: Block> Parts<B> {
         requires { IsRight B.meaning self.old }
         ensures right { IsRight B.meaning self.new }
         ensures spans { spans_in self.new ≡ spans_in self.old }
-        ensures answered { let old = plant_of self.old in Answered (feed_of (net_of B.meaning old.graph) old.state source.0 (type_of items.now) (numbers_of items.now) (map mark_of marks.now)) old (plant_of self.new) (reply_of (λ f. machine.Fed f.0) result) }
+        ensures answered { let old = plant_of self.old in Answered (feed_of (net_of B.meaning old.graph) old.state
+            source.0 (type_of items.now) (numbers_of items.now) (map mark_of marks.now)) old (plant_of self.new)
+            (reply_of (λ f. machine.Fed f.0) result) }
     {
         self.graph.recall();
         let item = source_type(&self.graph, source)?;
@@ -82,7 +86,9 @@ impl<B: Block> Parts<B> {
         requires { IsRight B.meaning self.old }
         ensures right { IsRight B.meaning self.new }
         ensures spans { spans_in self.new ≡ spans_in self.old }
-        ensures answered { let old = plant_of self.old in Answered (feed_numbers (net_of B.meaning old.graph) old.state source.0 numbers.now (map mark_of marks.now)) old (plant_of self.new) (reply_of (λ f. machine.Fed f.0) result) }
+        ensures answered { let old = plant_of self.old in Answered (feed_numbers (net_of B.meaning old.graph) old.state
+            source.0 numbers.now (map mark_of marks.now)) old (plant_of self.new)
+            (reply_of (λ f. machine.Fed f.0) result) }
     {
         self.graph.recall();
         let item = source_type(&self.graph, source)?;
@@ -112,9 +118,11 @@ impl<B: Block> Parts<B> {
         requires { IsRight B.meaning self.old }
         ensures right { IsRight B.meaning self.new }
         ensures spans { spans_in self.new ≡ spans_in self.old }
-        ensures replaces { let old = plant_of self.old in (place : ℕ) → (set_of (net_of B.meaning old.graph) old.state block.0 at (value_of value)).0 ≡ machine.Taken place →
+        ensures replaces { let old = plant_of self.old in (place : ℕ) → (set_of (net_of B.meaning old.graph) old.state
+            block.0 at (value_of value)).0 ≡ machine.Taken place →
             Any (λ h. h.at ≡ place) (handed_at old.state.handed block.0).settings → IsOk result }
-        ensures answered { let old = plant_of self.old in Answered (set_of (net_of B.meaning old.graph) old.state block.0 at (value_of value)) old (plant_of self.new) (reply_of (λ t. machine.Taken t.0) result) }
+        ensures answered { let old = plant_of self.old in Answered (set_of (net_of B.meaning old.graph) old.state
+            block.0 at (value_of value)) old (plant_of self.new) (reply_of (λ t. machine.Taken t.0) result) }
     {
         self.graph.recall();
         wanted(&self.graph, block, &value)?;
@@ -132,7 +140,8 @@ impl<B: Block> Parts<B> {
         requires right { IsRight B.meaning self.now }
         requires block { block.0 < length (arc_value self.now.graph).blocks }
         requires input { 0 < length (writers_of (net_of B.meaning (arc_value self.now.graph)) block.0) }
-        ensures { let plant = plant_of self.now in result ≡ floor_of (net_of B.meaning plant.graph) plant.state block.0 }
+        ensures { let plant = plant_of self.now in result ≡ floor_of (net_of B.meaning plant.graph) plant.state
+            block.0 }
     {
         self.graph.recall();
         let own = self.firings.progress(block);

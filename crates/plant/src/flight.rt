@@ -78,7 +78,8 @@ fn is_claim<B: Block>(
 // Whether the block has a claim in flight, and the job has its first firing, its count, its number of used outputs and
 // its state word.
 fn are_its_numbers<B: Block>(job: &Claimed<B>, own: Progress, outputs: usize, word: u64) -> bool
-    ensures { IsTrue result ↔ ((0 < own.claimed) × (job.now.first ≡ own.firings) × (job.now.count ≡ own.claimed) × (length job.now.lent.outputs.items ≡ outputs) × (job.now.word ≡ word)) }
+    ensures { IsTrue result ↔ ((0 < own.claimed) × (job.now.first ≡ own.firings) × (job.now.count ≡ own.claimed)
+        × (length job.now.lent.outputs.items ≡ outputs) × (job.now.word ≡ word)) }
 {
     0 < own.claimed
         && job.first == own.firings

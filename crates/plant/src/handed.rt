@@ -69,7 +69,8 @@ impl<B: Block> Opening<B> {
     /// block as far. Graphs that are equal like that are one network. It looks at each item once, and takes no memory.
     pub fn agrees(&self, other: &Opening<B>) -> bool
         ensures nets { IsTrue result → net_of B.meaning self.now.graph ≡ net_of B.meaning other.now.graph }
-        ensures same { IsTrue result ↔ ((graphs_agree B.eq self.now.graph other.now.graph ≡ true) × (self.now.state ≡ other.now.state)) }
+        ensures same { IsTrue result ↔ ((graphs_agree B.eq self.now.graph other.now.graph ≡ true)
+            × (self.now.state ≡ other.now.state)) }
     {
         same_progress(&self.progress, &other.progress)
             && same_copies(&self.handed.blocks, &other.handed.blocks)
@@ -95,7 +96,8 @@ impl<B: Block> Parts<B> {
         requires { ForgetsNone (spans_in self.now).firsts }
         ensures nets { IsTrue result → net_of B.meaning (plant_of self.now).graph ≡ net_of B.meaning handed.now.graph }
         ensures same { let plant = plant_of self.now in
-            IsTrue result ↔ ((graphs_agree B.eq plant.graph handed.now.graph ≡ true) × (handed.now.handed ≡ plant.state.handed)) }
+            IsTrue result ↔ ((graphs_agree B.eq plant.graph handed.now.graph ≡ true)
+            × (handed.now.handed ≡ plant.state.handed)) }
     {
         are_of(&handed.blocks, &self.stores.handed) && self.graph.agrees(&handed.graph)
     }

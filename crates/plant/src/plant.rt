@@ -50,7 +50,8 @@ use std::fmt;
 use std::marker::Model;
 use std::sync::Arc;
 
-/// A flowgraph with what it was handed and how far it is. A contract sees the graph, the capacities, and the machine's state.
+/// A flowgraph with what it was handed and how far it is. A contract sees the graph, the capacities, and the machine's
+/// state.
 pub struct Plant<B: Block> {
     parts: Parts<B>,
 }
@@ -155,7 +156,8 @@ impl<B: Block> Plant<B> {
     /// Closes a source's tape: nothing more comes. It returns how many items the tape holds. Refusals, in this order:
     /// `NoSuchBlock`, `NotSource`, and `Closed` if it was closed before. It takes no memory.
     pub fn close(&mut self, source: BlockId) -> Result<Closed, PlantFault>
-        ensures { AnsweredAlways (close_of (net_of B.meaning self.old.graph) self.old.state source.0) self.old self.new (reply_of (λ c. machine.Closed c.0) result) }
+        ensures { AnsweredAlways (close_of (net_of B.meaning self.old.graph) self.old.state source.0) self.old self.new
+            (reply_of (λ c. machine.Closed c.0) result) }
     {
         self.parts.close(source)
     }
@@ -165,7 +167,8 @@ impl<B: Block> Plant<B> {
     /// the items, `TapeFull` above 2^32 items, and `Memory`. An `Err` changes nothing. A tape that a `Handed` or an
     /// `Opening` shares is copied first.
     pub fn feed(&mut self, source: BlockId, items: Items, marks: &[Mark]) -> Result<Fed, PlantFault>
-        ensures { Answered (feed_of (net_of B.meaning self.old.graph) self.old.state source.0 (type_of items) (numbers_of items) (map mark_of marks.now)) self.old self.new (reply_of (λ f. machine.Fed f.0) result) }
+        ensures { Answered (feed_of (net_of B.meaning self.old.graph) self.old.state source.0 (type_of items)
+            (numbers_of items) (map mark_of marks.now)) self.old self.new (reply_of (λ f. machine.Fed f.0) result) }
     {
         self.feed_from(source, &items, marks)
     }
@@ -177,7 +180,8 @@ impl<B: Block> Plant<B> {
         items: &Items,
         marks: &[Mark],
     ) -> Result<Fed, PlantFault>
-        ensures { Answered (feed_of (net_of B.meaning self.old.graph) self.old.state source.0 (type_of items.now) (numbers_of items.now) (map mark_of marks.now)) self.old self.new (reply_of (λ f. machine.Fed f.0) result) }
+        ensures { Answered (feed_of (net_of B.meaning self.old.graph) self.old.state source.0 (type_of items.now)
+            (numbers_of items.now) (map mark_of marks.now)) self.old self.new (reply_of (λ f. machine.Fed f.0) result) }
     {
         self.parts.feed(source, items, marks)
     }
@@ -191,7 +195,8 @@ impl<B: Block> Plant<B> {
         numbers: &[i64],
         marks: &[Mark],
     ) -> Result<Fed, PlantFault>
-        ensures { Answered (feed_numbers (net_of B.meaning self.old.graph) self.old.state source.0 numbers.now (map mark_of marks.now)) self.old self.new (reply_of (λ f. machine.Fed f.0) result) }
+        ensures { Answered (feed_numbers (net_of B.meaning self.old.graph) self.old.state source.0 numbers.now
+            (map mark_of marks.now)) self.old self.new (reply_of (λ f. machine.Fed f.0) result) }
     {
         self.parts.feed_numbers(alloc, source, numbers, marks)
     }
@@ -206,9 +211,11 @@ impl<B: Block> Plant<B> {
         at: Option<u64>,
         value: Value,
     ) -> Result<Taken, PlantFault>
-        ensures replaces { (place : ℕ) → (set_of (net_of B.meaning self.old.graph) self.old.state block.0 at (value_of value)).0 ≡ machine.Taken place →
+        ensures replaces { (place : ℕ) → (set_of (net_of B.meaning self.old.graph) self.old.state block.0 at
+            (value_of value)).0 ≡ machine.Taken place →
             Any (λ h. h.at ≡ place) (handed_at self.old.state.handed block.0).settings → IsOk result }
-        ensures answered { Answered (set_of (net_of B.meaning self.old.graph) self.old.state block.0 at (value_of value)) self.old self.new (reply_of (λ t. machine.Taken t.0) result) }
+        ensures answered { Answered (set_of (net_of B.meaning self.old.graph) self.old.state block.0 at
+            (value_of value)) self.old self.new (reply_of (λ t. machine.Taken t.0) result) }
     {
         self.parts.set(block, at, value)
     }
@@ -223,9 +230,12 @@ impl<B: Block> Plant<B> {
         from: u64,
         max: u64,
     ) -> Result<Piece, PlantFault>
-        ensures answered { AnsweredBy (read_of (net_of B.meaning self.now.graph) self.now.state sink.0 from max) (reply_of piece_reply result) }
-        ensures typed { IfOk result (λ piece. type_of piece.items ≡ (node_at (net_of B.meaning self.now.graph) sink.0).meaning.inputs.item) }
-        ensures whole { IfOk result (λ piece. piece.done ≡ true → HoldsAll (net_of B.meaning self.now.graph) self.now.state sink.0) }
+        ensures answered { AnsweredBy (read_of (net_of B.meaning self.now.graph) self.now.state sink.0 from max)
+            (reply_of piece_reply result) }
+        ensures typed { IfOk result (λ piece. type_of piece.items ≡ (node_at (net_of B.meaning self.now.graph)
+            sink.0).meaning.inputs.item) }
+        ensures whole { IfOk result (λ piece. piece.done ≡ true → HoldsAll (net_of B.meaning self.now.graph)
+            self.now.state sink.0) }
     {
         self.parts.read(alloc, sink, from, max)
     }
@@ -233,9 +243,12 @@ impl<B: Block> Plant<B> {
     /// Lends all that a sink holds, with the tags on it. It copies nothing and takes no memory. Refusals:
     /// `NoSuchBlock`, `NotSink`. A view that says done is of a sink that holds its whole stream.
     pub fn view(&self, sink: BlockId) -> Result<SinkView<'_>, PlantFault>
-        ensures answered { reply_of view_reply result ≡ Some (view_of (net_of B.meaning self.now.graph) self.now.state sink.0) }
-        ensures typed { IfOk result (λ view. type_of view.items.now ≡ (node_at (net_of B.meaning self.now.graph) sink.0).meaning.inputs.item) }
-        ensures whole { IfOk result (λ view. view.done ≡ true → HoldsAll (net_of B.meaning self.now.graph) self.now.state sink.0) }
+        ensures answered { reply_of view_reply result ≡ Some (view_of (net_of B.meaning self.now.graph) self.now.state
+            sink.0) }
+        ensures typed { IfOk result (λ view. type_of view.items.now ≡ (node_at (net_of B.meaning self.now.graph)
+            sink.0).meaning.inputs.item) }
+        ensures whole { IfOk result (λ view. view.done ≡ true → HoldsAll (net_of B.meaning self.now.graph)
+            self.now.state sink.0) }
     {
         self.parts.view(sink)
     }
@@ -253,7 +266,8 @@ impl<B: Block> Plant<B> {
     /// require. Refusals: `NoSuchBlock`, and `NoSuchPort` for an output without a connection. It takes no memory.
     pub fn stored(&self, block: BlockId, port: usize) -> Result<Stored, PlantFault>
         ensures refused { fault_in result ≡ port_fault (net_of B.meaning self.now.graph) block.0 port }
-        ensures kept { IfOk result (IsKeptOf (net_of B.meaning self.now.graph) self.now.capacities self.now.state block.0 port) }
+        ensures kept { IfOk result (IsKeptOf (net_of B.meaning self.now.graph) self.now.capacities self.now.state
+            block.0 port) }
     {
         self.parts.stored(block, port)
     }
@@ -262,7 +276,8 @@ impl<B: Block> Plant<B> {
     /// reserves all memory of their work and their commit. Refusals: `NoSuchBlock`, `Memory`. An `Err` changes nothing.
     pub fn claim(&mut self, alloc: Global, block: BlockId, max: u32) -> Result<Claim<B>, PlantFault>
         requires { 1 ≤ max }
-        ensures answered { Answered (next (net_of B.meaning self.old.graph) self.old.capacities self.old.state (machine.Claim block.0 max)) self.old self.new (reply_of claim_reply result) }
+        ensures answered { Answered (next (net_of B.meaning self.old.graph) self.old.capacities self.old.state
+            (machine.Claim block.0 max)) self.old self.new (reply_of claim_reply result) }
         ensures of_graph { IfOk result (IsOf self.old.graph) }
     {
         self.parts.claim(alloc, block, max)
@@ -271,22 +286,25 @@ impl<B: Block> Plant<B> {
     /// Does at most `max` firings of a block: claim, work, commit. Refusals as for `claim`. An `Err` changes nothing.
     pub fn step(&mut self, alloc: Global, block: BlockId, max: u32) -> Result<Step, PlantFault>
         requires { 1 ≤ max }
-        ensures { Answered (step_of (net_of B.meaning self.old.graph) self.old.capacities self.old.state block.0 max) self.old self.new (reply_of step_reply result) }
+        ensures { Answered (step_of (net_of B.meaning self.old.graph) self.old.capacities self.old.state block.0 max)
+            self.old self.new (reply_of step_reply result) }
     {
         self.parts.step(alloc, block, max)
     }
 
     /// Steps all blocks in turn, writers before readers, at most `max` firings each, again and again, until all are
-    /// done, or a whole round did nothing: the plant is then quiet. Once all are done, each sink holds its whole stream.
-    /// It ends like that if the rates are balanced and each tape is closed. If memory runs out it stops, and the plant
-    /// stays where its steps took it.
+    /// done, or a whole round did nothing: the plant is then quiet. Once all are done, each sink holds its whole
+    /// stream. It ends like that if the rates are balanced and each tape is closed. If memory runs out it stops, and
+    /// the plant stays where its steps took it.
     pub fn settle(&mut self, alloc: Global, max: u32) -> Result<Settled, AllocError>
         requires idle { is_idle self.old.state ≡ true }
         requires some { 1 ≤ max }
         ensures same { self.new ≡ record self.old { state = self.new.state } }
-        ensures steps { StepsLead (net_of B.meaning self.old.graph) self.old.capacities max self.old.state self.new.state }
+        ensures steps { StepsLead (net_of B.meaning self.old.graph) self.old.capacities max self.old.state
+            self.new.state }
         ensures idle { is_idle self.new.state ≡ true }
-        ensures settled { IfOk result (HasSettled (net_of B.meaning self.new.graph) self.new.capacities self.new.state) }
+        ensures settled { IfOk result (HasSettled (net_of B.meaning self.new.graph) self.new.capacities
+            self.new.state) }
         ensures whole { IfOk result (HoldsSettled (net_of B.meaning self.new.graph) self.new.state) }
     {
         self.settle_watched(alloc, max, &mut Unwatched)
@@ -302,9 +320,11 @@ impl<B: Block> Plant<B> {
         requires idle { is_idle self.old.state ≡ true }
         requires some { 1 ≤ max }
         ensures same { self.new ≡ record self.old { state = self.new.state } }
-        ensures steps { StepsLead (net_of B.meaning self.old.graph) self.old.capacities max self.old.state self.new.state }
+        ensures steps { StepsLead (net_of B.meaning self.old.graph) self.old.capacities max self.old.state
+            self.new.state }
         ensures idle { is_idle self.new.state ≡ true }
-        ensures settled { IfOk result (HasSettled (net_of B.meaning self.new.graph) self.new.capacities self.new.state) }
+        ensures settled { IfOk result (HasSettled (net_of B.meaning self.new.graph) self.new.capacities
+            self.new.state) }
         ensures whole { IfOk result (HoldsSettled (net_of B.meaning self.new.graph) self.new.state) }
     {
         let settled = self.parts.settle(alloc, max, watch);
@@ -312,7 +332,8 @@ impl<B: Block> Plant<B> {
         settled
     }
 
-    /// How many items all sources were fed, and how many of these they have given. It looks at each block, and takes no memory.
+    /// How many items all sources were fed, and how many of these they have given. It looks at each block, and takes no
+    /// memory.
     pub fn headway(&self) -> Headway
         ensures value { result ≡ headway_of (net_of B.meaning self.now.graph) self.now.state }
         ensures within { result.given ≤ result.fed }
@@ -333,7 +354,8 @@ impl<B: Block> Plant<B> {
     /// marks and settings. It looks at each item once, and takes no memory. Graphs equal like that are one network.
     pub fn agrees(&self, handed: &Handed<B>) -> bool
         ensures nets { IsTrue result → net_of B.meaning self.now.graph ≡ net_of B.meaning handed.now.graph }
-        ensures same { IsTrue result ↔ ((graphs_agree B.eq self.now.graph handed.now.graph ≡ true) × (handed.now.handed ≡ self.now.state.handed)) }
+        ensures same { IsTrue result ↔ ((graphs_agree B.eq self.now.graph handed.now.graph ≡ true)
+            × (handed.now.handed ≡ self.now.state.handed)) }
     {
         self.parts.agrees(handed)
     }
@@ -350,7 +372,8 @@ impl<B: Block> Plant<B> {
     /// What a claim of a block would come to, or what it waits for, and of which block. Refusal: `NoSuchBlock`. Nothing
     /// changes, and it takes no memory.
     pub fn need(&self, block: BlockId) -> Result<BlockNeed, PlantFault>
-        ensures { wait_in result ≡ need_of (net_of B.meaning self.now.graph) self.now.capacities self.now.state block.0 }
+        ensures { wait_in result ≡ need_of (net_of B.meaning self.now.graph) self.now.capacities self.now.state
+            block.0 }
     {
         self.parts.need(block)
     }
@@ -359,9 +382,12 @@ impl<B: Block> Plant<B> {
     /// are done. If each tape is closed and the plant is quiet, it is on a ring: the waits lead from it back to it, and
     /// on the way each block waits for another.
     pub fn ring(&self) -> Option<BlockId>
-        ensures value { option_map (λ block. block.0) result ≡ ring_of (net_of B.meaning self.now.graph) self.now.capacities self.now.state }
-        ensures comes_back { AreClosed (net_of B.meaning self.now.graph) self.now.state → is_quiet (net_of B.meaning self.now.graph) self.now.capacities self.now.state ≡ true →
-            IfSome result (λ block. IsOnRing (net_of B.meaning self.now.graph) self.now.capacities self.now.state block.0) }
+        ensures value { option_map (λ block. block.0) result ≡ ring_of (net_of B.meaning self.now.graph)
+            self.now.capacities self.now.state }
+        ensures comes_back { AreClosed (net_of B.meaning self.now.graph) self.now.state
+            → is_quiet (net_of B.meaning self.now.graph) self.now.capacities self.now.state ≡ true →
+            IfSome result (λ block. IsOnRing (net_of B.meaning self.now.graph) self.now.capacities self.now.state
+            block.0) }
     {
         self.parts.ring()
     }
@@ -370,7 +396,8 @@ impl<B: Block> Plant<B> {
     /// in flight: block (number, number of used outputs, and the block itself), first firing, count, windows, settings
     /// and opening state word agree. Other work comes back, and nothing changes. It takes no memory.
     pub fn commit(&mut self, worked: Worked<B>) -> Result<Did, Worked<B>>
-        ensures { IsTaken (λ d. machine.Did d.0) (commit_of (net_of B.meaning self.old.graph) self.old.state (is_own B.eq self.old.graph worked.graph worked.job.block) worked.job) self.old self.new worked result }
+        ensures { IsTaken (λ d. machine.Did d.0) (commit_of (net_of B.meaning self.old.graph) self.old.state
+            (is_own B.eq self.old.graph worked.graph worked.job.block) worked.job) self.old self.new worked result }
     {
         self.parts.commit(worked)
     }
@@ -378,7 +405,8 @@ impl<B: Block> Plant<B> {
     /// Gives up a job: its firings are as if never claimed. A job that is not its block's claim in flight comes back,
     /// as from `commit`. It takes no memory.
     pub fn abandon(&mut self, job: Job<B>) -> Result<(), Job<B>>
-        ensures { IsTaken (λ u. machine.Abandoned) (abandon_of (net_of B.meaning self.old.graph) self.old.state (is_own B.eq self.old.graph job.graph job.job.block) job.job) self.old self.new job result }
+        ensures { IsTaken (λ u. machine.Abandoned) (abandon_of (net_of B.meaning self.old.graph) self.old.state
+            (is_own B.eq self.old.graph job.graph job.job.block) job.job) self.old self.new job result }
     {
         self.parts.abandon(job)
     }
@@ -388,9 +416,11 @@ impl<B: Block> Plant<B> {
     /// machine. It does nothing.
     pub fn recall(&self)
         ensures runs { CanRun (net_of B.meaning self.now.graph) }
-        ensures capacities { self.now.capacities ≡ capacities_of (net_of B.meaning self.now.graph) (balance_of (net_of B.meaning self.now.graph)) }
+        ensures capacities { self.now.capacities ≡ capacities_of (net_of B.meaning self.now.graph)
+            (balance_of (net_of B.meaning self.now.graph)) }
         ensures sound { Sound (net_of B.meaning self.now.graph) self.now.capacities self.now.state }
-        ensures composes { (made : List Made) (new : PlantState B) → Leads (net_of B.meaning self.now.graph) self.now made new →
+        ensures composes { (made : List Made) (new : PlantState B) → Leads (net_of B.meaning self.now.graph) self.now
+            made new →
             IsRun (net_of B.meaning self.now.graph) self.now made new }
     {
         self.parts.graph.recall();

@@ -30,9 +30,12 @@ impl<B: Block> Parts<B> {
     ) -> Result<Piece, PlantFault>
         requires right { IsRight B.meaning self.now }
         requires kept { (sink_at (stored_in self.now.stores) sink.0).from ≤ from }
-        ensures answered { let plant = plant_of self.now in AnsweredBy (read_of (net_of B.meaning plant.graph) plant.state sink.0 from max) (reply_of piece_reply result) }
-        ensures typed { let plant = plant_of self.now in IfOk result (λ piece. type_of piece.items ≡ (node_at (net_of B.meaning plant.graph) sink.0).meaning.inputs.item) }
-        ensures whole { let plant = plant_of self.now in IfOk result (λ piece. piece.done ≡ true → HoldsAll (net_of B.meaning plant.graph) plant.state sink.0) }
+        ensures answered { let plant = plant_of self.now in AnsweredBy
+            (read_of (net_of B.meaning plant.graph) plant.state sink.0 from max) (reply_of piece_reply result) }
+        ensures typed { let plant = plant_of self.now in IfOk result (λ piece. type_of piece.items
+            ≡ (node_at (net_of B.meaning plant.graph) sink.0).meaning.inputs.item) }
+        ensures whole { let plant = plant_of self.now in IfOk result (λ piece. piece.done ≡ true
+            → HoldsAll (net_of B.meaning plant.graph) plant.state sink.0) }
     {
         self.graph.recall();
         if self.graph.len() <= sink.0 as usize {
@@ -60,9 +63,12 @@ impl<B: Block> Parts<B> {
     pub fn view(&self, sink: BlockId) -> Result<SinkView<'_>, PlantFault>
         requires right { IsRight B.meaning self.now }
         requires kept { (sink_at (stored_in self.now.stores) sink.0).from ≡ 0 }
-        ensures answered { let plant = plant_of self.now in reply_of view_reply result ≡ Some (view_of (net_of B.meaning plant.graph) plant.state sink.0) }
-        ensures typed { let plant = plant_of self.now in IfOk result (λ view. type_of view.items.now ≡ (node_at (net_of B.meaning plant.graph) sink.0).meaning.inputs.item) }
-        ensures whole { let plant = plant_of self.now in IfOk result (λ view. view.done ≡ true → HoldsAll (net_of B.meaning plant.graph) plant.state sink.0) }
+        ensures answered { let plant = plant_of self.now in reply_of view_reply result
+            ≡ Some (view_of (net_of B.meaning plant.graph) plant.state sink.0) }
+        ensures typed { let plant = plant_of self.now in IfOk result (λ view. type_of view.items.now
+            ≡ (node_at (net_of B.meaning plant.graph) sink.0).meaning.inputs.item) }
+        ensures whole { let plant = plant_of self.now in IfOk result (λ view. view.done ≡ true
+            → HoldsAll (net_of B.meaning plant.graph) plant.state sink.0) }
     {
         self.graph.recall();
         if self.graph.len() <= sink.0 as usize {
@@ -83,7 +89,8 @@ impl<B: Block> Parts<B> {
     /// How many unread items the buffer of an output holds at most.
     pub fn capacity(&self, block: BlockId, port: usize) -> Result<u32, PlantFault>
         requires { IsRight B.meaning self.now }
-        ensures refused { let plant = plant_of self.now in fault_in result ≡ port_fault (net_of B.meaning plant.graph) block.0 port }
+        ensures refused { let plant = plant_of self.now in fault_in result
+            ≡ port_fault (net_of B.meaning plant.graph) block.0 port }
         ensures value { IfOk result (λ items. items ≡ capacity_at (plant_of self.now).capacities block.0 port) }
     {
         // An output that keeps something is one that is used.
@@ -100,8 +107,10 @@ impl<B: Block> Parts<B> {
     /// How much the buffer of an output keeps.
     pub fn stored(&self, block: BlockId, port: usize) -> Result<Stored, PlantFault>
         requires { IsRight B.meaning self.now }
-        ensures refused { let plant = plant_of self.now in fault_in result ≡ port_fault (net_of B.meaning plant.graph) block.0 port }
-        ensures kept { let plant = plant_of self.now in IfOk result (IsKeptOf (net_of B.meaning plant.graph) plant.capacities plant.state block.0 port) }
+        ensures refused { let plant = plant_of self.now in fault_in result
+            ≡ port_fault (net_of B.meaning plant.graph) block.0 port }
+        ensures kept { let plant = plant_of self.now in IfOk result (IsKeptOf (net_of B.meaning plant.graph)
+            plant.capacities plant.state block.0 port) }
     {
         self.graph.recall();
         if self.graph.len() <= block.0 as usize {

@@ -47,8 +47,8 @@ pub(crate) fn is_cut(tape: &Recording, first: u64, next: u64, windows: &[Items])
     windows.len() == 1 && is_range(&windows[0], kept.items, start as usize, end as usize)
 }
 
-/// Whether the settings are those in force over the items that firings `first` to below `next` of a block take of its first input: none
-/// without a timeline.
+/// Whether the settings are those in force over the items that firings `first` to below `next` of a block take of its
+/// first input: none without a timeline.
 pub(crate) fn are_held<B: Block>(
     graph: &Valid<B>,
     block: BlockId,
@@ -89,10 +89,12 @@ fn is_seen<B: Block>(
 ) -> bool
     requires block { block.0 < length graph.now.blocks }
     requires ordered { first ≤ next }
-    requires input { CanSee (map (λ row. row.items) buffers.now) (node_at (net_of B.meaning graph.now) block.0) first next port input.now }
+    requires input { CanSee (map (λ row. row.items) buffers.now) (node_at (net_of B.meaning graph.now) block.0) first
+        next port input.now }
     requires same_type { type_of window.now ≡ (node_at (net_of B.meaning graph.now) block.0).meaning.inputs.item }
     ensures { (stream : List ℤ) → IsEndOf (ring_behind (map (λ row. row.items) buffers.now) input.now) stream →
-        IsTrue result ↔ (numbers_of window.now ≡ seen_of (map (λ row. row.items) buffers.now) (node_at (net_of B.meaning graph.now) block.0) first next port input.now stream) }
+        IsTrue result ↔ (numbers_of window.now ≡ seen_of (map (λ row. row.items) buffers.now)
+        (node_at (net_of B.meaning graph.now) block.0) first next port input.now stream) }
 {
     let count = graph.takes(block, port, first, next);
     let writer = input.connection;
@@ -115,10 +117,13 @@ pub(crate) fn are_seen<B: Block>(
 ) -> bool
     requires block { block.0 < length graph.now.blocks }
     requires ordered { first ≤ next }
-    requires inputs { CanSeeAll (map (λ row. row.items) buffers.now) (node_at (net_of B.meaning graph.now) block.0) first next inputs.now }
-    requires types { All (λ w. type_of w ≡ (node_at (net_of B.meaning graph.now) block.0).meaning.inputs.item) windows.now }
+    requires inputs { CanSeeAll (map (λ row. row.items) buffers.now) (node_at (net_of B.meaning graph.now) block.0)
+        first next inputs.now }
+    requires types { All (λ w. type_of w ≡ (node_at (net_of B.meaning graph.now) block.0).meaning.inputs.item)
+        windows.now }
     ensures { (streams : ℕ → List ℤ) → AreEnds (map (λ row. row.items) buffers.now) inputs.now streams →
-        IsTrue result ↔ AreSeen (map (λ row. row.items) buffers.now) (node_at (net_of B.meaning graph.now) block.0) first next inputs.now streams (map numbers_of windows.now) }
+        IsTrue result ↔ AreSeen (map (λ row. row.items) buffers.now) (node_at (net_of B.meaning graph.now) block.0)
+        first next inputs.now streams (map numbers_of windows.now) }
 {
     if windows.len() != inputs.len() {
         return false;

@@ -51,7 +51,8 @@ impl Watch for Unwatched {
 }
 
 impl<B: Block> Parts<B> {
-    /// Steps all blocks in turn, writers before readers, at most `max` firings each, until all are done or none moved on.
+    /// Steps all blocks in turn, writers before readers, at most `max` firings each, until all are done or none moved
+    /// on.
     pub fn settle<W: Watch>(
         &mut self,
         alloc: Global,
@@ -64,10 +65,13 @@ impl<B: Block> Parts<B> {
         ensures right { IsRight B.meaning self.new }
         ensures spans { spans_in self.new ≡ spans_in self.old }
         ensures same { plant_of self.new ≡ record (plant_of self.old) { state = (plant_of self.new).state } }
-        ensures steps { let old = plant_of self.old in StepsLead (net_of B.meaning old.graph) old.capacities max old.state (plant_of self.new).state }
+        ensures steps { let old = plant_of self.old in StepsLead (net_of B.meaning old.graph) old.capacities max
+            old.state (plant_of self.new).state }
         ensures idle { is_idle (plant_of self.new).state ≡ true }
-        ensures settled { let new = plant_of self.new in IfOk result (HasSettled (net_of B.meaning new.graph) new.capacities new.state) }
-        ensures whole { let new = plant_of self.new in IfOk result (HoldsSettled (net_of B.meaning new.graph) new.state) }
+        ensures settled { let new = plant_of self.new in IfOk result (HasSettled (net_of B.meaning new.graph)
+            new.capacities new.state) }
+        ensures whole { let new = plant_of self.new in IfOk result (HoldsSettled (net_of B.meaning new.graph)
+            new.state) }
     {
         'rounds: loop {
             let moved = self.round(alloc, max, watch)?;
@@ -95,9 +99,11 @@ impl<B: Block> Parts<B> {
         ensures right { IsRight B.meaning self.new }
         ensures spans { spans_in self.new ≡ spans_in self.old }
         ensures same { plant_of self.new ≡ record (plant_of self.old) { state = (plant_of self.new).state } }
-        ensures steps { let old = plant_of self.old in StepsLead (net_of B.meaning old.graph) old.capacities max old.state (plant_of self.new).state }
+        ensures steps { let old = plant_of self.old in StepsLead (net_of B.meaning old.graph) old.capacities max
+            old.state (plant_of self.new).state }
         ensures idle { is_idle (plant_of self.new).state ≡ true }
-        ensures moved { let old = plant_of self.old in IfOk result (HasMoved (net_of B.meaning old.graph) old.capacities old.state (plant_of self.new).state) }
+        ensures moved { let old = plant_of self.old in IfOk result (HasMoved (net_of B.meaning old.graph) old.capacities
+            old.state (plant_of self.new).state) }
     {
         self.graph.recall();
         // (a share of it, since a step has the plant to itself)
@@ -126,9 +132,13 @@ impl<B: Block> Parts<B> {
         ensures right { IsRight B.meaning self.new }
         ensures spans { spans_in self.new ≡ spans_in self.old }
         ensures step { let old = plant_of self.old in
-            IfOk result (λ moved. plant_of self.new ≡ record old { state = (step_of (net_of B.meaning old.graph) old.capacities old.state block.0 max).1 }) }
+            IfOk result (λ moved. plant_of self.new ≡ record old {
+              state = (step_of (net_of B.meaning old.graph)
+                  old.capacities old.state block.0 max).1;
+            }) }
         ensures moved { let old = plant_of self.old in
-            IfOk result (λ moved. moved ≡ moves_on old.state (machine.Claim block.0 max) (step_of (net_of B.meaning old.graph) old.capacities old.state block.0 max).0) }
+            IfOk result (λ moved. moved ≡ moves_on old.state (machine.Claim block.0 max)
+            (step_of (net_of B.meaning old.graph) old.capacities old.state block.0 max).0) }
         ensures err { OnErr result (plant_of self.new ≡ plant_of self.old) }
     {
         self.graph.recall();
@@ -151,8 +161,10 @@ impl<B: Block> Parts<B> {
     /// stays at the greatest.
     pub fn headway(&self) -> Headway
         requires { IsRight B.meaning self.now }
-        ensures value { let plant = plant_of self.now in KeepsAll (spans_in self.now) → result ≡ headway_of (net_of B.meaning plant.graph) plant.state }
-        ensures shown { let plant = plant_of self.now in result ≡ headway_shown (net_of B.meaning plant.graph) plant.state }
+        ensures value { let plant = plant_of self.now in KeepsAll (spans_in self.now) → result
+            ≡ headway_of (net_of B.meaning plant.graph) plant.state }
+        ensures shown { let plant = plant_of self.now in result ≡ headway_shown (net_of B.meaning plant.graph)
+            plant.state }
         ensures within { result.given ≤ result.fed }
     {
         let mut headway = Headway { given: 0, fed: 0 };
@@ -168,8 +180,10 @@ impl<B: Block> Parts<B> {
     fn own_headway(&self, block: BlockId) -> Headway
         requires right { IsRight B.meaning self.now }
         requires block { block.0 < length (arc_value self.now.graph).blocks }
-        ensures given { let plant = plant_of self.now in result.given ≡ given_by_source (net_of B.meaning plant.graph) plant.state block.0 }
-        ensures fed { let plant = plant_of self.now in result.fed ≡ fed_to (net_of B.meaning plant.graph) plant.state block.0 }
+        ensures given { let plant = plant_of self.now in result.given ≡ given_by_source (net_of B.meaning plant.graph)
+            plant.state block.0 }
+        ensures fed { let plant = plant_of self.now in result.fed ≡ fed_to (net_of B.meaning plant.graph) plant.state
+            block.0 }
         ensures within { result.given ≤ result.fed }
         ensures short { KeepsAll (spans_in self.now) → result.fed ≤ 2 ^ 32 }
     {

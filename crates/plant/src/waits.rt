@@ -21,7 +21,8 @@ impl<B: Block> Parts<B> {
     /// What a claim of a block would come to, or what it waits for.
     pub fn need(&self, block: BlockId) -> Result<BlockNeed, PlantFault>
         requires { IsRight B.meaning self.now }
-        ensures { let plant = plant_of self.now in wait_in result ≡ need_of (net_of B.meaning plant.graph) plant.capacities plant.state block.0 }
+        ensures { let plant = plant_of self.now in wait_in result ≡ need_of (net_of B.meaning plant.graph)
+            plant.capacities plant.state block.0 }
     {
         self.graph.recall();
         if self.graph.len() <= block.0 as usize {
@@ -33,8 +34,10 @@ impl<B: Block> Parts<B> {
     /// The block reached after as many waits as there are blocks, from the lowest block that is not done.
     pub fn ring(&self) -> Option<BlockId>
         requires { IsRight B.meaning self.now }
-        ensures value { let plant = plant_of self.now in option_map (λ block. block.0) result ≡ ring_of (net_of B.meaning plant.graph) plant.capacities plant.state }
-        ensures comes_back { let plant = plant_of self.now in AreClosed (net_of B.meaning plant.graph) plant.state → is_quiet (net_of B.meaning plant.graph) plant.capacities plant.state ≡ true →
+        ensures value { let plant = plant_of self.now in option_map (λ block. block.0) result
+            ≡ ring_of (net_of B.meaning plant.graph) plant.capacities plant.state }
+        ensures comes_back { let plant = plant_of self.now in AreClosed (net_of B.meaning plant.graph) plant.state
+            → is_quiet (net_of B.meaning plant.graph) plant.capacities plant.state ≡ true →
             IfSome result (λ block. IsOnRing (net_of B.meaning plant.graph) plant.capacities plant.state block.0) }
     {
         self.graph.recall();
@@ -64,7 +67,8 @@ impl<B: Block> Parts<B> {
     fn next_of(&self, block: BlockId) -> BlockId
         requires right { IsRight B.meaning self.now }
         requires block { block.0 < length (arc_value self.now.graph).blocks }
-        ensures value { let plant = plant_of self.now in result.0 ≡ next_of (net_of B.meaning plant.graph) plant.capacities plant.state block.0 }
+        ensures value { let plant = plant_of self.now in result.0 ≡ next_of (net_of B.meaning plant.graph)
+            plant.capacities plant.state block.0 }
         ensures inside { result.0 < length (arc_value self.now.graph).blocks }
     {
         self.graph.recall();
@@ -79,7 +83,8 @@ impl<B: Block> Parts<B> {
     fn own_need(&self, block: BlockId) -> BlockNeed
         requires right { IsRight B.meaning self.now }
         requires block { block.0 < length (arc_value self.now.graph).blocks }
-        ensures { let plant = plant_of self.now in wait_seen result ≡ wait_of (net_of B.meaning plant.graph) plant.capacities plant.state block.0 }
+        ensures { let plant = plant_of self.now in wait_seen result ≡ wait_of (net_of B.meaning plant.graph)
+            plant.capacities plant.state block.0 }
     {
         self.graph.recall();
         self.firings.need(

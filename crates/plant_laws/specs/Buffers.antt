@@ -15,26 +15,30 @@ use Rattle.plant_laws.specs.Calls.{WhereHolds}
 abbrev pub given_so_far : Network → State → ℕ → ℕ → List ℤ
 given_so_far net st b p = take (given_by (node_at net b) (fired st b)) (items_of net st.handed b p)
 
--- a reader at this place finds in the buffer its unread items with the past that it reads before them, no more than the capacity unread,
--- and the tags on them
-pub record Finds (net : Network) (caps : Capacities) (st : State) (b p : ℕ) (buffer : OutputBuffer) (reader : ReaderState) : Type 0 where
+-- a reader at this place finds in the buffer its unread items with the past that it reads before them, no more than the
+-- capacity unread, and the tags on them
+pub record Finds (net : Network) (caps : Capacities) (st : State) (b p : ℕ) (buffer : OutputBuffer)
+    (reader : ReaderState) : Type 0 where
   pub items : IsEndOf buffer.ring (given_so_far net st b p)
   pub reaches : buffer.ring.written - length buffer.ring.kept ≤ reader.place - (reader.history - 1)
   pub near : buffer.ring.written ≤ reader.place + capacity_at caps b p
-  pub tags : tags_within reader.place buffer.ring.written buffer.tags ≡ tags_within reader.place buffer.ring.written (tags_of net st.handed b p)
+  pub tags : tags_within reader.place buffer.ring.written buffer.tags
+      ≡ tags_within reader.place buffer.ring.written (tags_of net st.handed b p)
 
 -- each live reader does
 abbrev pub ReadersFindTheirItems : Type 0
 ReadersFindTheirItems = WhereHolds (λ net caps st stored. (b p : ℕ) → b < length net.nodes → p < used_outputs net b →
-    All (λ c. (progress_at st.progress c.to).done ≡ false → Finds net caps st b p (buffer_at stored b p) (place_of net st c)) (readers_of net b p))
+    All (λ c. (progress_at st.progress c.to).done ≡ false → Finds net caps st b p (buffer_at stored b p)
+    (place_of net st c)) (readers_of net b p))
 
--- how much a buffer that is still read keeps: of items the last, as many as its capacity and the greatest past need; of the stream's tags
--- those on items from the slowest live reader's place on
+-- how much a buffer that is still read keeps: of items the last, as many as its capacity and the greatest past need; of
+-- the stream's tags those on items from the slowest live reader's place on
 pub record KeepsNoMore (net : Network) (st : State) (b p : ℕ) (buffer : OutputBuffer) : Type 0 where
   pub items : length buffer.ring.kept ≡ min buffer.ring.written (most_kept buffer.ring.capacity buffer.ring.greatest)
   pub tags : IfSome (slowest_of (map (place_of net st) (readers_of net b p))) (λ place.
       tags_within 0 buffer.ring.written buffer.tags ≡ tags_within place buffer.ring.written (tags_of net st.handed b p))
 
 abbrev pub BuffersKeepNoMore : Type 0
-BuffersKeepNoMore = WhereHolds (λ net caps st stored. (b p : ℕ) → b < length net.nodes → p < used_outputs net b → has_no_reader net caps st b p ≡ false →
+BuffersKeepNoMore = WhereHolds (λ net caps st stored. (b p : ℕ) → b < length net.nodes → p < used_outputs net b
+    → has_no_reader net caps st b p ≡ false →
     KeepsNoMore net st b p (buffer_at stored b p))

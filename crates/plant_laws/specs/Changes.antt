@@ -18,7 +18,13 @@ use Rattle.plant_laws.specs.Holds.{has_no_reader}
 abbrev pub with_fed : Stored → ℕ → List ℤ → List Mark → Stored
 with_fed stored b xs ms =
     let tape = tape_at stored b in
-    record stored { tapes = slice_set stored.tapes b (record tape { items = tape.items ++ xs; tags = insert_tags (map (tag_of b) ms) tape.tags }) }
+    record stored {
+      tapes = slice_set stored.tapes b (record tape {
+        items = tape.items
+            ++ xs;
+        tags = insert_tags (map (tag_of b) ms) tape.tags;
+      });
+    }
 
 abbrev pub with_closed : Stored → ℕ → Stored
 with_closed stored b = record stored { tapes = slice_set stored.tapes b (record (tape_at stored b) { closed = true }) }
@@ -28,7 +34,11 @@ with_settings stored b s = record stored { timelines = slice_set stored.timeline
 
 -- a buffer with more items and tags, one of whose readers takes items, and one that waits for a reader no longer
 abbrev pub pushed : OutputBuffer → List ℤ → List Tag → OutputBuffer
-pushed buffer xs ts = record buffer { ring = with_items buffer.ring xs; tags = wanted_tags buffer.ring (insert_tags ts buffer.tags) }
+pushed buffer xs ts = record buffer {
+  ring = with_items buffer.ring xs;
+  tags = wanted_tags buffer.ring
+      (insert_tags ts buffer.tags);
+}
 
 abbrev pub advanced : OutputBuffer → ℕ → ℕ → OutputBuffer
 advanced buffer reader count =
@@ -47,10 +57,12 @@ reader_number net c = position_or_len (enters c.to c.in_port) (readers_of net c.
 -- the buffer at the connection's output, written over
 abbrev pub at_output : (OutputBuffer → OutputBuffer) → Connection → List (List OutputBuffer) → List (List OutputBuffer)
 at_output f c buffers =
-    slice_set buffers c.from (slice_set (buffers_in buffers c.from) c.out_port (f (buffer_in buffers c.from c.out_port)))
+    slice_set buffers c.from (slice_set (buffers_in buffers c.from) c.out_port
+    (f (buffer_in buffers c.from c.out_port)))
 
 -- each connection's buffer, one after the other
-abbrev pub at_outputs : (Connection → OutputBuffer → OutputBuffer) → List Connection → List (List OutputBuffer) → List (List OutputBuffer)
+abbrev pub at_outputs : (Connection → OutputBuffer → OutputBuffer) → List Connection → List (List OutputBuffer)
+    → List (List OutputBuffer)
 at_outputs f [] buffers = buffers
 at_outputs f (c ∷ cs) buffers = at_outputs f cs (at_output (f c) c buffers)
 
@@ -61,7 +73,8 @@ released_buffers net cs buffers = at_outputs (λ c buffer. released buffer (read
 -- at each of these inputs of block b, what its firings from k up to the next ones take is taken
 abbrev pub taken_buffers : Network → ℕ → ℕ → ℕ → List Connection → List (List OutputBuffer) → List (List OutputBuffer)
 taken_buffers net b k next cs buffers =
-    at_outputs (λ c buffer. advanced buffer (reader_number net c) (taken_by (node_at net b) c.in_port next - taken_by (node_at net b) c.in_port k)) cs buffers
+    at_outputs (λ c buffer. advanced buffer (reader_number net c) (taken_by (node_at net b) c.in_port next - taken_by
+    (node_at net b) c.in_port k)) cs buffers
 
 -- no buffer waits for block b any longer
 abbrev pub with_released : Network → Stored → ℕ → Stored
@@ -80,9 +93,11 @@ tags_brought net stored b p k next =
     ]
 
 -- the outputs of block b that are still read get items and tags
-abbrev pub given_buffers : Network → Capacities → State → Stored → ℕ → (ℕ → List ℤ) → (ℕ → List Tag) → List (List OutputBuffer)
+abbrev pub given_buffers : Network → Capacities → State → Stored → ℕ → (ℕ → List ℤ) → (ℕ → List Tag)
+    → List (List OutputBuffer)
 given_buffers net caps st stored b items tags =
-    slice_set stored.buffers b (map (λ p. if has_no_reader net caps st b p then buffer_at stored b p else pushed (buffer_at stored b p) (items p) (tags p)) (below (used_outputs net b)))
+    slice_set stored.buffers b (map (λ p. if has_no_reader net caps st b p then buffer_at stored b p else pushed
+    (buffer_at stored b p) (items p) (tags p)) (below (used_outputs net b)))
 
 -- a sink that keeps its items collects those of a window, and the tags on them
 abbrev pub collected : Collected → List ℤ → List Tag → Collected
@@ -95,7 +110,8 @@ collected_sinks net stored job =
     (tags_within job.first (job.first + job.count) (slice_index_or (tags_waiting net stored job.block) 0 [])))
     else stored.sinks
 
--- a commit gives the outputs the job's items and the tags that its firings add, takes what they took, and keeps the new state word
+-- a commit gives the outputs the job's items and the tags that its firings add, takes what they took, and keeps the new
+-- state word
 abbrev pub with_committed : Network → Capacities → State → Stored → Job → List (List ℤ) → ℕ → Stored
 with_committed net caps st stored job outputs word =
     let b = job.block in
@@ -103,16 +119,23 @@ with_committed net caps st stored job outputs word =
     record stored {
       words = slice_set stored.words b word;
       buffers = taken_buffers net b job.first next (writers_of net b)
-          (given_buffers net caps st stored b (λ p. slice_index_or outputs p []) (λ p. tags_brought net stored b p job.first next));
+          (given_buffers net caps st stored b (λ p. slice_index_or outputs p [])
+          (λ p. tags_brought net stored b p job.first next));
       sinks = collected_sinks net stored job;
     }
 
 -- the items of a tape, or of what a sink has collected, before one are kept no more
 abbrev pub with_tape_from : Stored → ℕ → ℕ → Stored
-with_tape_from stored b to = record stored { tapes = slice_set stored.tapes b (record (tape_at stored b) { from = to }) }
+with_tape_from stored b to = record stored {
+  tapes = slice_set stored.tapes b
+      (record (tape_at stored b) { from = to });
+}
 
 abbrev pub with_sink_from : Stored → ℕ → ℕ → Stored
-with_sink_from stored b to = record stored { sinks = slice_set stored.sinks b (record (sink_at stored b) { from = to }) }
+with_sink_from stored b to = record stored {
+  sinks = slice_set stored.sinks b
+      (record (sink_at stored b) { from = to });
+}
 
 -- no item before one is read with settings any more
 abbrev pub with_settings_to : ℕ → Option SettingsState → Option SettingsState
@@ -120,4 +143,7 @@ with_settings_to to None = None
 with_settings_to to (Some s) = Some (record s { from = to })
 
 abbrev pub with_settings_from : Stored → ℕ → ℕ → Stored
-with_settings_from stored b to = record stored { timelines = slice_set stored.timelines b (with_settings_to to (timeline_at stored b)) }
+with_settings_from stored b to = record stored {
+  timelines = slice_set stored.timelines b
+      (with_settings_to to (timeline_at stored b));
+}

@@ -51,42 +51,57 @@ held_over (Some s) from to = between s.own s.settings from to
 -- an input's buffer has the items and the tags on them, unread
 pub record ServesInput (net : Network) (st : State) (stored : Stored) (b count p : ℕ) : Type 0 where
   pub live : IsLive (input_buffer net stored b p).ring (input_reader net b p)
-  pub place : (reader_at (input_buffer net stored b p).ring (input_reader net b p)).place ≡ taken_by (node_at net b) p (fired st b)
+  pub place : (reader_at (input_buffer net stored b p).ring (input_reader net b p)).place
+      ≡ taken_by (node_at net b) p (fired st b)
   pub unread : takes net st b p count ≤ unread_of (input_buffer net stored b p).ring (input_reader net b p)
-  pub window : (xs : List ℤ) → IsSeen (input_buffer net stored b p).ring (input_reader net b p) (takes net st b p count) xs → xs ≡ input (job_of net st b count).windows p
-  pub tags : let from = taken_by (node_at net b) p (fired st b) in let to = taken_by (node_at net b) p (fired st b + count) in
+  pub window : (xs : List ℤ) → IsSeen (input_buffer net stored b p).ring (input_reader net b p) (takes net st b p count)
+      xs → xs ≡ input (job_of net st b count).windows p
+  pub tags : let from = taken_by (node_at net b) p (fired st b) in let to = taken_by (node_at net b) p
+      (fired st b + count) in
       let c = writer_of net b p in
-      tags_within from to (input_buffer net stored b p).tags ≡ tags_within from to (tags_of net st.handed c.from c.out_port)
+      tags_within from to (input_buffer net stored b p).tags ≡ tags_within from to
+      (tags_of net st.handed c.from c.out_port)
 
 -- an output that is still read has room for what these firings give, and the tags that they add lie behind what it has
-pub record ServesOutput (net : Network) (caps : Capacities) (st : State) (stored : Stored) (b count p : ℕ) : Type 0 where
-  pub written : (buffer_at stored b p).ring.written ≡ given_by (node_at net b) (fired st b)
-  pub room : given_by (node_at net b) (fired st b + count) - given_by (node_at net b) (fired st b) ≤ room_of (buffer_at stored b p).ring
-  pub tags : All (λ t. (buffer_at stored b p).ring.written ≤ t.offset) (tags_brought net stored b p (fired st b) (fired st b + count))
+pub record ServesOutput (net : Network) (caps : Capacities) (st : State) (stored : Stored) (b count p : ℕ) : Type 0
+  where
+    pub written : (buffer_at stored b p).ring.written ≡ given_by (node_at net b) (fired st b)
+    pub room : given_by (node_at net b) (fired st b + count) - given_by (node_at net b) (fired st b) ≤ room_of
+        (buffer_at stored b p).ring
+    pub tags : All (λ t. (buffer_at stored b p).ring.written ≤ t.offset)
+        (tags_brought net stored b p (fired st b) (fired st b + count))
 
 pub record Serves (net : Network) (caps : Capacities) (st : State) (stored : Stored) (b count : ℕ) : Type 0 where
   pub word : word_at stored b ≡ (job_of net st b count).word
-  pub held : held_over (timeline_at stored b) (taken_by (node_at net b) 0 (fired st b)) (taken_by (node_at net b) 0 (fired st b + count)) ≡ (job_of net st b count).held
-  pub tape : is_source (role_at net b) ≡ true → tape_windows stored b (fired st b) count ≡ (job_of net st b count).windows
-  pub windows : is_source (role_at net b) ≡ false → (windows : List (List ℤ)) → length windows ≡ length (writers_of net b) →
-      ((p : ℕ) → p < length (writers_of net b) → IsSeen (input_buffer net stored b p).ring (input_reader net b p) (takes net st b p count) (input windows p)) →
+  pub held : held_over (timeline_at stored b) (taken_by (node_at net b) 0 (fired st b))
+      (taken_by (node_at net b) 0 (fired st b + count)) ≡ (job_of net st b count).held
+  pub tape : is_source (role_at net b) ≡ true → tape_windows stored b (fired st b) count
+      ≡ (job_of net st b count).windows
+  pub windows : is_source (role_at net b) ≡ false → (windows : List (List ℤ)) → length windows
+      ≡ length (writers_of net b) →
+      ((p : ℕ) → p < length (writers_of net b) → IsSeen (input_buffer net stored b p).ring (input_reader net b p)
+      (takes net st b p count) (input windows p)) →
       windows ≡ (job_of net st b count).windows
   pub inputs : (p : ℕ) → p < length (writers_of net b) → ServesInput net st stored b count p
-  pub outputs : (p : ℕ) → p < used_outputs net b → has_no_reader net caps st b p ≡ false → ServesOutput net caps st stored b count p
+  pub outputs : (p : ℕ) → p < used_outputs net b → has_no_reader net caps st b p ≡ false
+      → ServesOutput net caps st stored b count p
 
 -- firings that fit are served
 abbrev pub FiringsAreServed : Type 0
 FiringsAreServed =
-    (net : Network) (caps : Capacities) (st : State) (stored : Stored) → CanRun net → Sound net caps st → Holds net caps st stored →
+    (net : Network) (caps : Capacities) (st : State) (stored : Stored) → CanRun net → Sound net caps st
+    → Holds net caps st stored →
     (b count : ℕ) → MayFire net caps st b count → Serves net caps st stored b count
 
 -- such are those that a claim gets, and those of a claim in flight until it is given back, whatever is called meanwhile
 abbrev pub ClaimsMayFire : Type 0
 ClaimsMayFire =
     (net : Network) (caps : Capacities) (st : State) → CanRun net → Sound net caps st →
-    (b max count : ℕ) → b < length net.nodes → decide (node_at net b) (counts_of net caps st b) max ≡ Fires count → MayFire net caps st b count
+    (b max count : ℕ) → b < length net.nodes → decide (node_at net b) (counts_of net caps st b) max ≡ Fires count
+    → MayFire net caps st b count
 
 abbrev pub FlightsMayFire : Type 0
 FlightsMayFire =
     (net : Network) (caps : Capacities) (st : State) → CanRun net → Sound net caps st →
-    (b : ℕ) → b < length net.nodes → 0 < (progress_at st.progress b).claimed → MayFire net caps st b (progress_at st.progress b).claimed
+    (b : ℕ) → b < length net.nodes → 0 < (progress_at st.progress b).claimed
+    → MayFire net caps st b (progress_at st.progress b).claimed

@@ -60,15 +60,16 @@ tags_given net hs b p k =
       | false ↦ sorted_tags (brought (node_at net b) p 0 k (tags_in net hs b))
     ]
 
--- a buffer shows the items that its block's committed firings gave: their number, the last of them, and the tags that these firings
--- added, from the slowest reader's place on
+-- a buffer shows the items that its block's committed firings gave: their number, the last of them, and the tags that
+-- these firings added, from the slowest reader's place on
 pub record ShowsOutput (net : Network) (st : State) (b p : ℕ) (buffer : OutputBuffer) : Type 0 where
   pub written : buffer.ring.written ≡ given_by (node_at net b) (fired st b)
-  pub items : buffer.ring.kept ≡ keep_last (most_kept buffer.ring.capacity buffer.ring.greatest) (take (given_by (node_at net b) (fired st b)) (items_of net st.handed b p))
+  pub items : buffer.ring.kept ≡ keep_last (most_kept buffer.ring.capacity buffer.ring.greatest)
+      (take (given_by (node_at net b) (fired st b)) (items_of net st.handed b p))
   pub tags : buffer.tags ≡ wanted_tags buffer.ring (tags_given net st.handed b p (fired st b))
 
--- the buffer of output p of block b: of its type, as great as it must be, with each reader at its place. Once nobody reads it any more, it need not
--- show anything
+-- the buffer of output p of block b: of its type, as great as it must be, with each reader at its place. Once nobody
+-- reads it any more, it need not show anything
 pub record IsBuffer (net : Network) (caps : Capacities) (st : State) (b p : ℕ) (buffer : OutputBuffer) : Type 0 where
   pub type : buffer.item ≡ (node_at net b).meaning.outputs.item
   pub capacity : buffer.ring.capacity ≡ capacity_at caps b p
@@ -76,7 +77,8 @@ pub record IsBuffer (net : Network) (caps : Capacities) (st : State) (b p : ℕ)
   pub readers : buffer.ring.readers ≡ map (place_of net st) (readers_of net b p)
   pub shows : has_no_reader net caps st b p ≡ false → ShowsOutput net st b p buffer
 
--- a sink has the items of the stream that enters it that it took, one a firing, and the tags on them; what it forgot it took
+-- a sink has the items of the stream that enters it that it took, one a firing, and the tags on them; what it forgot it
+-- took
 pub record HasCollected (net : Network) (st : State) (b : ℕ) (sink : Collected) : Type 0 where
   pub type : sink.item ≡ (node_at net b).meaning.inputs.item
   pub items : sink.items ≡ take (fired st b) (input (entering net st.handed b) 0)
@@ -92,14 +94,19 @@ pub record HasPlaces (net : Network) (stored : Stored) : Type 0 where
   pub outputs : (b : ℕ) → b < length net.nodes → length (buffers_in stored.buffers b) ≡ used_outputs net b
   pub sinks : length stored.sinks ≡ length net.nodes
 
--- what is stored is what the state's streams say, each thing by itself; what a tape forgot, its source took, and settings may be read from the items on
--- that their block did not take
+-- what is stored is what the state's streams say, each thing by itself; what a tape forgot, its source took, and
+-- settings may be read from the items on that their block did not take
 pub record Holds (net : Network) (caps : Capacities) (st : State) (stored : Stored) : Type 0 where
   pub places : HasPlaces net stored
-  pub tapes : (b : ℕ) → b < length net.nodes → is_source (role_at net b) ≡ true → IsTape (node_at net b).meaning.outputs.item (handed_at st.handed b) (tape_at stored b)
+  pub tapes : (b : ℕ) → b < length net.nodes → is_source (role_at net b) ≡ true
+      → IsTape (node_at net b).meaning.outputs.item (handed_at st.handed b) (tape_at stored b)
   pub kept : (b : ℕ) → b < length net.nodes → is_source (role_at net b) ≡ true → (tape_at stored b).from ≤ fired st b
-  pub timelines : (b : ℕ) → b < length net.nodes → IsTimeline (node_at net b).meaning.own (handed_at st.handed b).settings (timeline_at stored b)
-  pub unread : (b : ℕ) → b < length net.nodes → settings_from (timeline_at stored b) ≤ taken_by (node_at net b) 0 (fired st b)
+  pub timelines : (b : ℕ) → b < length net.nodes → IsTimeline (node_at net b).meaning.own
+      (handed_at st.handed b).settings (timeline_at stored b)
+  pub unread : (b : ℕ) → b < length net.nodes → settings_from (timeline_at stored b) ≤ taken_by (node_at net b) 0
+      (fired st b)
   pub words : (b : ℕ) → b < length net.nodes → word_at stored b ≡ word_of net st b
-  pub buffers : (b p : ℕ) → b < length net.nodes → p < used_outputs net b → IsBuffer net caps st b p (buffer_at stored b p)
-  pub sinks : (b : ℕ) → b < length net.nodes → is_keeper (role_at net b) ≡ true → HasCollected net st b (sink_at stored b)
+  pub buffers : (b p : ℕ) → b < length net.nodes → p < used_outputs net b
+      → IsBuffer net caps st b p (buffer_at stored b p)
+  pub sinks : (b : ℕ) → b < length net.nodes → is_keeper (role_at net b) ≡ true
+      → HasCollected net st b (sink_at stored b)

@@ -28,7 +28,12 @@ empty_sink n = record nothing_collected { item = n.meaning.inputs.item }
 
 abbrev pub empty_buffer : Network → Capacities → ℕ → ℕ → OutputBuffer
 empty_buffer net caps b p =
-    record { item = (node_at net b).meaning.outputs.item; ring = ring_state 0 [] (capacity_at caps b p) (greatest_history net b p) (map (first_place net) (readers_of net b p)); tags = [] }
+    record {
+      item = (node_at net b).meaning.outputs.item;
+      ring = ring_state 0 [] (capacity_at caps b p)
+          (greatest_history net b p) (map (first_place net) (readers_of net b p));
+      tags = [];
+    }
 
 -- empty open tapes, no settings, the first state words, empty buffers, and nothing collected
 abbrev pub stored_opening : Network → Capacities → Stored
@@ -42,4 +47,5 @@ stored_opening net caps = record {
 
 -- however long tapes may come to be
 abbrev pub OpeningHolds : Type 0
-OpeningHolds = (net : Network) (caps : Capacities) (longest : ℕ) → CanRun net → Holds net caps (opening_within longest net) (stored_opening net caps)
+OpeningHolds = (net : Network) (caps : Capacities) (longest : ℕ) → CanRun net
+    → Holds net caps (opening_within longest net) (stored_opening net caps)

@@ -6,7 +6,8 @@ use Rattle.stream_model.specs.Tags.{Tag}
 use Rattle.recordings.specs.Recent.{SettingsState}
 use Rattle.ring_readers.specs.State.{RingState, empty_ring}
 
--- a source's tape: its items with their type, its tags in order, whether it is closed, and the first item that is kept in memory
+-- a source's tape: its items with their type, its tags in order, whether it is closed, and the first item that is kept
+-- in memory
 pub record Tape : Type 0 where
   pub item : ItemType
   pub items : List ℤ
@@ -14,7 +15,8 @@ pub record Tape : Type 0 where
   pub closed : Bool
   pub from : ℕ
 
--- an output's buffer: the type of its items, the ring that has them, with a place for each reader, and its tags in order
+-- an output's buffer: the type of its items, the ring that has them, with a place for each reader, and its tags in
+-- order
 pub record OutputBuffer : Type 0 where
   pub item : ItemType
   pub ring : RingState
@@ -27,8 +29,8 @@ pub record Collected : Type 0 where
   pub tags : List Tag
   pub from : ℕ
 
--- block by block: tapes, which are those of sources, settings where the block has one, state words, a buffer for each used output,
--- and what the sinks that keep their items have collected
+-- block by block: tapes, which are those of sources, settings where the block has one, state words, a buffer for each
+-- used output, and what the sinks that keep their items have collected
 pub record Stored : Type 0 where
   pub tapes : List Tape
   pub timelines : List (Option SettingsState)
@@ -73,11 +75,17 @@ abbrev pub settings_from : Option SettingsState → ℕ
 settings_from None = 0
 settings_from (Some s) = s.from
 
--- the first item that is kept of each tape, and of what each sink has collected, and the first at which the settings of each block may still be read
+-- the first item that is kept of each tape, and of what each sink has collected, and the first at which the settings of
+-- each block may still be read
 pub record Firsts : Type 0 where
   pub tapes : List ℕ
   pub sinks : List ℕ
   pub settings : List ℕ
 
 abbrev pub firsts_of : Stored → Firsts
-firsts_of stored = record { tapes = map (λ (t : Tape). t.from) stored.tapes; sinks = map (λ (s : Collected). s.from) stored.sinks; settings = map settings_from stored.timelines }
+firsts_of stored = record {
+  tapes = map (λ (t : Tape). t.from) stored.tapes;
+  sinks = map (λ (s : Collected). s.from)
+      stored.sinks;
+  settings = map settings_from stored.timelines;
+}

@@ -14,11 +14,16 @@ pub record CanTake (net : Network) (buffers : List (List OutputBuffer)) (c : Con
 
 -- where the buffers at a live block's first inputs no longer wait for it, that at the next still does
 abbrev pub ReadersLeaveInTurn : Type 0
-ReadersLeaveInTurn = WhereHolds (λ net caps st stored. (b q : ℕ) → b < length net.nodes → (progress_at st.progress b).done ≡ false → q < length (writers_of net b) →
+ReadersLeaveInTurn = WhereHolds (λ net caps st stored. (b q : ℕ) → b < length net.nodes
+    → (progress_at st.progress b).done ≡ false → q < length (writers_of net b) →
     CanTake net (released_buffers net (take q (writers_of net b)) stored.buffers) (writer_of net b q) 0)
 
 -- and as a commit takes at the first inputs what its firings take, the next has what they take
 abbrev pub ReadersTakeInTurn : Type 0
-ReadersTakeInTurn = WhereHolds (λ net caps st stored. (b q : ℕ) (outputs : List (List ℤ)) (word : ℕ) → b < length net.nodes → 0 < (progress_at st.progress b).claimed → IsWorked net st b outputs word → q < length (writers_of net b) →
-    let given = given_buffers net caps st stored b (λ p. slice_index_or outputs p []) (λ p. tags_brought net stored b p (fired st b) (reached st b)) in
-    CanTake net (taken_buffers net b (fired st b) (reached st b) (take q (writers_of net b)) given) (writer_of net b q) (taken_by (node_at net b) q (reached st b) - taken_by (node_at net b) q (fired st b)))
+ReadersTakeInTurn = WhereHolds (λ net caps st stored. (b q : ℕ) (outputs : List (List ℤ)) (word : ℕ)
+    → b < length net.nodes → 0 < (progress_at st.progress b).claimed → IsWorked net st b outputs word
+    → q < length (writers_of net b) →
+    let given = given_buffers net caps st stored b (λ p. slice_index_or outputs p [])
+    (λ p. tags_brought net stored b p (fired st b) (reached st b)) in
+    CanTake net (taken_buffers net b (fired st b) (reached st b) (take q (writers_of net b)) given) (writer_of net b q)
+    (taken_by (node_at net b) q (reached st b) - taken_by (node_at net b) q (fired st b)))

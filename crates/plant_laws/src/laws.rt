@@ -47,7 +47,8 @@ pub fn abandoning_holds()
     ensures { AbandoningHolds }
 {}
 
-/// What is stored has all that firings which fit need: their windows, settings and state word, unread items and the tags on them, and room.
+/// What is stored has all that firings which fit need: their windows, settings and state word, unread items and the
+/// tags on them, and room.
 pub fn firings_are_served()
     ensures { FiringsAreServed }
 {}
@@ -72,8 +73,8 @@ pub fn ending_holds()
     ensures { EndingHolds }
 {}
 
-/// A commit gives the outputs the items of the claim's work and the tags that its firings bring, takes what they took, and keeps the new
-/// state word; a sink collects what it took. Nothing else that is stored changes.
+/// A commit gives the outputs the items of the claim's work and the tags that its firings bring, takes what they took,
+/// and keeps the new state word; a sink collects what it took. Nothing else that is stored changes.
 pub fn committing_holds()
     ensures { CommittingHolds }
 {}

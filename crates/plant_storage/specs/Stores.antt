@@ -24,11 +24,23 @@ settings_in (Some s) = s.settings
 
 -- what a block was handed, as the model has it
 abbrev pub handed_of : Intake → model.Handed
-handed_of h = let tape = tape_in h.tape in record { tape = tape.items; tags = tape.marks; closed = h.closed; settings = settings_in h.timeline; longest = h.longest }
+handed_of h = let tape = tape_in h.tape in record {
+  tape = tape.items;
+  tags = tape.marks;
+  closed = h.closed;
+  settings = settings_in h.timeline;
+  longest = h.longest;
+}
 
 -- its tape with the tags in order
 abbrev pub tape_of : Intake → Tape
-tape_of h = let tape = tape_in h.tape in record { item = tape.item; items = tape.items; tags = tape.tags; closed = h.closed; from = tape.from }
+tape_of h = let tape = tape_in h.tape in record {
+  item = tape.item;
+  items = tape.items;
+  tags = tape.tags;
+  closed = h.closed;
+  from = tape.from;
+}
 
 abbrev pub buffer_of : BufferState → OutputBuffer
 buffer_of b = record { item = b.item; ring = b.ring; tags = b.tags }
@@ -39,7 +51,14 @@ collected_of r = record { item = r.item; items = r.items; tags = r.tags; from = 
 -- all that is stored
 abbrev pub stored_of : List Intake → List ℕ → List (List BufferState) → List RecordingState → Stored
 stored_of handed words buffers sinks =
-    record { tapes = map tape_of handed; timelines = map (λ h. h.timeline) handed; words = words; buffers = map (map buffer_of) buffers; sinks = map collected_of sinks }
+    record {
+      tapes = map tape_of handed;
+      timelines = map (λ h. h.timeline) handed;
+      words = words;
+      buffers = map
+          (map buffer_of) buffers;
+      sinks = map collected_of sinks;
+    }
 
 -- the buffers, block by block
 abbrev pub rows_in : Stores → List (List BufferState)
@@ -67,7 +86,11 @@ pub record IsAsBefore (old new : Intake) : Type 0 where
 -- source b was fed with items and marks
 pub record IsFed (b : ℕ) (xs : List ℤ) (ms : List model_tags.Mark) (old new : Intake) : Type 0 where
   pub handed : handed_of new ≡ with_tape (handed_of old) b xs ms
-  pub tape : tape_of new ≡ (let tape = tape_of old in record tape { items = tape.items ++ xs; tags = insert_tags (map (tag_of b) ms) tape.tags })
+  pub tape : tape_of new ≡ (let tape = tape_of old in record tape {
+    items = tape.items
+        ++ xs;
+    tags = insert_tags (map (tag_of b) ms) tape.tags;
+  })
   pub timeline : new.timeline ≡ old.timeline
   pub own : is_own new.tape ≡ is_own old.tape
 
@@ -81,7 +104,10 @@ pub record HasOneMore (h : Held) (old new : Option SettingsState) : Type 0 where
 
 -- a setting was made
 pub record IsSet (h : Held) (old new : Intake) : Type 0 where
-  pub handed : handed_of new ≡ (let handed = handed_of old in record handed { settings = put_setting h handed.settings })
+  pub handed : handed_of new ≡ (let handed = handed_of old in record handed {
+    settings = put_setting h
+        handed.settings;
+  })
   pub tape : tape_of new ≡ tape_of old
   pub timeline : HasOneMore h old.timeline new.timeline
   pub own : is_own new.tape ≡ is_own old.tape

@@ -5,8 +5,8 @@ use Rattle.stream_model.specs.Tags.{Tag, Mark}
 use Rattle.stream_model.specs.Machine.{tag_of}
 use Rattle.tags.specs.TagList.{insert_tags}
 
--- the type of its items, the items, the tags on them in order, the same tags in the order of feeding, the first item in memory, and how many of the tags in
--- the order of feeding are in memory, and fit there
+-- the type of its items, the items, the tags on them in order, the same tags in the order of feeding, the first item in
+-- memory, and how many of the tags in the order of feeding are in memory, and fit there
 pub record TapeState : Type 0 where
   pub item : ItemType
   pub items : List ℤ
@@ -20,7 +20,8 @@ pub record TapeState : Type 0 where
 abbrev pub blank_tape : ItemType → TapeState
 blank_tape t = record { item = t; items = []; tags = []; marks = []; from = 0; marks_held = 0; marks_room = 0 }
 
--- the room for n more beside those that are there: as it is, where they fit; else it grows by as many as there are, or by n if that is more
+-- the room for n more beside those that are there: as it is, where they fit; else it grows by as many as there are, or
+-- by n if that is more
 abbrev pub room_for : ℕ → ℕ → ℕ → ℕ
 room_for held room n = if nat_le (held + n) room then room else held + max n held
 

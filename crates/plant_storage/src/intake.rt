@@ -33,8 +33,8 @@ pub struct Intake {
 }
 
 impl Intake {
-    /// Nothing yet: an open tape without items, which is `alone` its owner's or shared with copies, and no settings. The block's own parameter, if it has a
-    /// setting, is in force. It fails only where the allocator refuses.
+    /// Nothing yet: an open tape without items, which is `alone` its owner's or shared with copies, and no settings.
+    /// The block's own parameter, if it has a setting, is in force. It fails only where the allocator refuses.
     pub fn new(
         alloc: Global,
         item: ItemType,
@@ -59,7 +59,8 @@ impl Intake {
         })
     }
 
-    /// Puts items at the end of the tape, with each mark as a tag of the source. A tape that is shared is copied first. An `Err` changes nothing.
+    /// Puts items at the end of the tape, with each mark as a tag of the source. A tape that is shared is copied first.
+    /// An `Err` changes nothing.
     pub fn feed(&mut self, source: u32, items: &Items, marks: &[Mark]) -> Result<(), AllocError>
         requires { type_of items.now ≡ (tape_in self.old.tape).item }
         ensures ok { OnOk result (IsFed source (numbers_of items.now) (map mark_of marks.now) self.old self.new) }
@@ -86,7 +87,8 @@ impl Intake {
         forget_settings_in(&mut self.timeline, to);
     }
 
-    /// Sets what is in force from an item on. An `Err` changes nothing, and comes only where there is no setting of that item yet.
+    /// Sets what is in force from an item on. An `Err` changes nothing, and comes only where there is no setting of
+    /// that item yet.
     pub fn set(&mut self, at: u64, value: Value) -> Result<(), AllocError>
         requires some { IsSome self.old.timeline }
         requires unread { settings_from self.old.timeline ≤ at }

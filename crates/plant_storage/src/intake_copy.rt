@@ -15,7 +15,8 @@ use std::fmt;
 use std::marker::Model;
 use std::sync::Arc;
 
-/// What a block was handed, as it was at one moment. The tape is shared, so that no item of it is copied. A contract sees it as the machine has it.
+/// What a block was handed, as it was at one moment. The tape is shared, so that no item of it is copied. A contract
+/// sees it as the machine has it.
 pub struct IntakeCopy {
     tape: Arc<Tape, Global>,
     closed: bool,
@@ -57,7 +58,8 @@ impl Model for IntakeCopy {
 }
 
 impl IntakeCopy {
-    /// A copy of what a block was handed. It takes memory for the settings, and for a tape that is not shared, and fails only where the allocator refuses.
+    /// A copy of what a block was handed. It takes memory for the settings, and for a tape that is not shared, and
+    /// fails only where the allocator refuses.
     pub fn of(alloc: Global, intake: &Intake) -> Result<IntakeCopy, AllocError>
         requires { IsWhole intake.now }
         ensures { IfOk result (λ copy. copy ≡ handed_of intake.now) }
@@ -70,8 +72,8 @@ impl IntakeCopy {
         })
     }
 
-    /// Whether the block was handed the same: the items of its tape, the tags in the order of feeding, whether it is closed, how long it may
-    /// come to be, and the settings.
+    /// Whether the block was handed the same: the items of its tape, the tags in the order of feeding, whether it is
+    /// closed, how long it may come to be, and the settings.
     pub fn agrees(&self, intake: &Intake) -> bool
         requires { IsWhole intake.now }
         ensures { IsTrue result ↔ (self.now ≡ handed_of intake.now) }

@@ -17,7 +17,8 @@ use recordings::Recording;
 use ring_readers::RingFault;
 use std::alloc::{AllocError, Global};
 
-/// What each block is handed before anything is, where a tape may come to hold `longest` items, and is `alone` its owner's or shared with copies.
+/// What each block is handed before anything is, where a tape may come to hold `longest` items, and is `alone` its
+/// owner's or shared with copies.
 pub(crate) fn all_handed<B: Block>(
     alloc: Global,
     graph: &Valid<B>,
@@ -81,7 +82,8 @@ pub(crate) fn buffers<B: Block>(
     requires { HaveCapacities (net_of B.meaning graph.now) (map (λ row. row.items) capacities.now) }
     ensures { let net = net_of B.meaning graph.now in
         IfOk result (λ rows. map (λ row. map buffer_of row.items) rows.items
-        ≡ map (λ b. map (empty_buffer net (map (λ row. row.items) capacities.now) b) (below (used_outputs net b))) (below (length net.nodes))) }
+        ≡ map (λ b. map (empty_buffer net (map (λ row. row.items) capacities.now) b) (below (used_outputs net b)))
+        (below (length net.nodes))) }
 {
     let mut rows = Vec::with_capacity(alloc, graph.len())?;
     for block in 0..graph.len() {
@@ -100,7 +102,8 @@ fn row<B: Block>(
     requires capacities { HaveCapacities (net_of B.meaning graph.now) (map (λ row. row.items) capacities.now) }
     requires block { block.0 < length graph.now.blocks }
     ensures { let net = net_of B.meaning graph.now in
-        IfOk result (λ row. map buffer_of row.items ≡ map (empty_buffer net (map (λ row. row.items) capacities.now) block.0) (below (used_outputs net block.0))) }
+        IfOk result (λ row. map buffer_of row.items ≡ map (empty_buffer net (map (λ row. row.items) capacities.now)
+        block.0) (below (used_outputs net block.0))) }
 {
     let mut row = Vec::with_capacity(alloc, graph.outputs(block))?;
     for port in 0..graph.outputs(block) {
@@ -123,7 +126,8 @@ fn buffer<B: Block>(
     requires capacities { HaveCapacities (net_of B.meaning graph.now) (map (λ row. row.items) capacities.now) }
     requires block { block.0 < length graph.now.blocks }
     requires port { port < used_outputs (net_of B.meaning graph.now) block.0 }
-    ensures { IfOk result (λ buffer. buffer_of buffer ≡ empty_buffer (net_of B.meaning graph.now) (map (λ row. row.items) capacities.now) block.0 port) }
+    ensures { IfOk result (λ buffer. buffer_of buffer ≡ empty_buffer (net_of B.meaning graph.now)
+        (map (λ row. row.items) capacities.now) block.0 port) }
 {
     graph.recall();
     let capacity = capacity_at(capacities, block.0 as usize, port);

@@ -13,8 +13,8 @@ use std::alloc::{AllocError, Global};
 use std::ops::Deref;
 use std::sync::Arc;
 
-/// The tape of a source. A plant that forgets has it alone, so that forgetting takes no memory; else it is shared with the copies that are made of it, until
-/// either is fed.
+/// The tape of a source. A plant that forgets has it alone, so that forgetting takes no memory; else it is shared with
+/// the copies that are made of it, until either is fed.
 #[derive(Debug, Drop)]
 pub enum SourceTape {
     /// A copy of it has memory of its own.
@@ -42,7 +42,8 @@ impl Deref for SourceTape {
 }
 
 impl SourceTape {
-    /// A tape without items, which is to be its owner's alone or not. It takes no memory in the first case, and fails only where the allocator refuses.
+    /// A tape without items, which is to be its owner's alone or not. It takes no memory in the first case, and fails
+    /// only where the allocator refuses.
     pub fn new(alloc: Global, item: ItemType, own: bool) -> Result<SourceTape, AllocError>
         ensures blank { IfOk result (λ source. tape_in source ≡ blank_tape item) }
         ensures own { IfOk result (λ source. is_own source ≡ own) }
@@ -55,10 +56,12 @@ impl SourceTape {
         }
     }
 
-    /// Puts items at its end, with each mark as a tag of the source. One that is shared is copied first. An `Err` changes nothing.
+    /// Puts items at its end, with each mark as a tag of the source. One that is shared is copied first. An `Err`
+    /// changes nothing.
     pub fn feed(&mut self, source: u32, items: &Items, marks: &[Mark]) -> Result<(), AllocError>
         requires { type_of items.now ≡ (tape_in self.old).item }
-        ensures ok { OnOk result (tape_in self.new ≡ longer_tape (tape_in self.old) source (numbers_of items.now) (map mark_of marks.now)) }
+        ensures ok { OnOk result (tape_in self.new ≡ longer_tape (tape_in self.old) source (numbers_of items.now)
+            (map mark_of marks.now)) }
         ensures err { OnErr result (tape_in self.new ≡ tape_in self.old) }
         ensures own { is_own self.new ≡ is_own self.old }
     {
@@ -111,7 +114,8 @@ fn feed_shared(
     marks: &[Mark],
 ) -> Result<(), AllocError>
     requires { type_of items.now ≡ (arc_value tape.old).item }
-    ensures ok { OnOk result (arc_value tape.new ≡ longer_tape (arc_value tape.old) source (numbers_of items.now) (map mark_of marks.now)) }
+    ensures ok { OnOk result (arc_value tape.new ≡ longer_tape (arc_value tape.old) source (numbers_of items.now)
+        (map mark_of marks.now)) }
     ensures err { OnErr result (arc_value tape.new ≡ arc_value tape.old) }
 {
     Arc::make_mut(tape)?.feed(source, items, marks)

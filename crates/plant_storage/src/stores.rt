@@ -62,8 +62,9 @@ impl Stores {
     ghost use Rattle.plant_storage.specs.Opening.{HaveCapacities};
     ghost use Rattle.plant_storage.specs.SourceTapes.{is_own};
 
-    /// What is stored before anything happens. The capacities are those of the used outputs of each block, in items, and a tape may come to hold
-    /// `longest` items, and is `alone` the plant's or shared with copies. It fails only where the allocator refuses.
+    /// What is stored before anything happens. The capacities are those of the used outputs of each block, in items,
+    /// and a tape may come to hold `longest` items, and is `alone` the plant's or shared with copies. It fails only
+    /// where the allocator refuses.
     pub fn open<B: Block>(
         alloc: Global,
         graph: &Valid<B>,
@@ -72,10 +73,13 @@ impl Stores {
         alone: bool,
     ) -> Result<Stores, AllocError>
         requires { HaveCapacities (net_of B.meaning graph.now) (map (λ row. row.items) capacities.now) }
-        ensures stored { IfOk result (λ s. stored_in s ≡ stored_opening (net_of B.meaning graph.now) (map (λ row. row.items) capacities.now)) }
-        ensures handed { IfOk result (λ s. map handed_of s.handed.items ≡ map (λ _. nothing_within longest) (net_of B.meaning graph.now).nodes) }
+        ensures stored { IfOk result (λ s. stored_in s ≡ stored_opening (net_of B.meaning graph.now)
+            (map (λ row. row.items) capacities.now)) }
+        ensures handed { IfOk result (λ s. map handed_of s.handed.items
+            ≡ map (λ _. nothing_within longest) (net_of B.meaning graph.now).nodes) }
         ensures brought { IfOk result (λ s. s.brought.items ≡ []) }
-        ensures alone { IfOk result (λ s. map (λ h. is_own h.tape) s.handed.items ≡ map (λ _. alone) (net_of B.meaning graph.now).nodes) }
+        ensures alone { IfOk result (λ s. map (λ h. is_own h.tape) s.handed.items
+            ≡ map (λ _. alone) (net_of B.meaning graph.now).nodes) }
     {
         Ok(Stores {
             handed: all_handed(alloc, graph, longest, alone)?,
@@ -92,8 +96,10 @@ impl Stores {
         ensures items { result.items ≡ length (buffer_at (stored_in self.now) block.0 port).ring.kept }
         ensures tags { let buffer = buffer_at (stored_in self.now) block.0 port in
             result.tags ≡ length (tags_within 0 buffer.ring.written buffer.tags) }
-        ensures all { let ring = (buffer_at (stored_in self.now) block.0 port).ring in result.items ≡ min ring.written (most_kept ring.capacity ring.greatest) }
-        ensures near { let ring = (buffer_at (stored_in self.now) block.0 port).ring in IfSome (slowest_of ring.readers) (λ place. ring.written ≤ place + ring.capacity) }
+        ensures all { let ring = (buffer_at (stored_in self.now) block.0 port).ring in result.items
+            ≡ min ring.written (most_kept ring.capacity ring.greatest) }
+        ensures near { let ring = (buffer_at (stored_in self.now) block.0 port).ring in IfSome (slowest_of ring.readers)
+            (λ place. ring.written ≤ place + ring.capacity) }
         ensures none { slowest_of (buffer_at (stored_in self.now) block.0 port).ring.readers ≡ None → result.tags ≡ 0 }
     {
         let buffer = &self.buffers[block.0 as usize][port];

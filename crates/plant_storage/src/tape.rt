@@ -13,11 +13,13 @@ use std::alloc::{AllocError, Global};
 use std::fmt;
 use std::marker::Model;
 
-/// What a source was fed: its items, and the tags on them, both in their order and in that of feeding. What it forgets takes no memory.
+/// What a source was fed: its items, and the tags on them, both in their order and in that of feeding. What it forgets
+/// takes no memory.
 #[derive(Drop)]
 pub struct Tape {
     recording: Recording,
-    // The same tags in the order of feeding, which the recording does not keep. Those that are out of memory are so many of each of these.
+    // The same tags in the order of feeding, which the recording does not keep. Those that are out of memory are so
+    // many of each of these.
     forgotten: Past<Vec<Tag>, usize>,
     marks: Vec<Tag>,
 }
@@ -82,7 +84,8 @@ impl Tape {
     /// Puts items at its end, with each mark as a tag of the source. An `Err` changes nothing.
     pub fn feed(&mut self, source: u32, items: &Items, marks: &[Mark]) -> Result<(), AllocError>
         requires { type_of items.now ≡ self.old.item }
-        ensures ok { OnOk result (self.new ≡ longer_tape self.old source (numbers_of items.now) (map mark_of marks.now)) }
+        ensures ok { OnOk result (self.new ≡ longer_tape self.old source (numbers_of items.now)
+            (map mark_of marks.now)) }
         ensures err { OnErr result (self.new ≡ self.old) }
     {
         self.recording.reserve(items.len(), marks.len())?;
@@ -93,7 +96,8 @@ impl Tape {
         Ok(())
     }
 
-    /// The items before `to` and the tags on them are forgotten, and all tags in the order of feeding. It takes no memory.
+    /// The items before `to` and the tags on them are forgotten, and all tags in the order of feeding. It takes no
+    /// memory.
     pub fn forget(&mut self, to: u64)
         requires kept { self.old.from ≤ to }
         requires within { to ≤ length self.old.items }

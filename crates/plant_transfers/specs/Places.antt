@@ -38,7 +38,8 @@ windows_of net b = elim (is_source (role_at net b)) [
   | false ↦ length (writers_of net b)
 ]
 
--- how many items window p has for firings from k up to the next ones: those that they take, behind the past that they read
+-- how many items window p has for firings from k up to the next ones: those that they take, behind the past that they
+-- read
 abbrev pub window_size : Network → ℕ → ℕ → ℕ → ℕ → ℕ
 window_size net b p k next = elim (is_source (role_at net b)) [
   | true ↦ next - k
@@ -48,7 +49,8 @@ window_size net b p k next = elim (is_source (role_at net b)) [
 -- the windows of these firings fit the places
 pub record HoldWindows (net : Network) (b k next : ℕ) (windows : List Items) : Type 0 where
   pub are : ArePlaces (node_at net b).meaning.inputs.item (windows_of net b) windows
-  pub fit : (p : ℕ) (d : Items) → p < windows_of net b → window_size net b p k next ≤ room_of (slice_index_or windows p d)
+  pub fit : (p : ℕ) (d : Items) → p < windows_of net b → window_size net b p k next ≤ room_of
+      (slice_index_or windows p d)
 
 -- what they give on each output fits the places
 pub record HoldOutputs (net : Network) (b k next : ℕ) (outputs : List Items) : Type 0 where

@@ -16,8 +16,8 @@ pub record HasSpare (items tags : ℕ) (sink : RecordingState) : Type 0 where
 abbrev pub tags_taken_by : Network → Stores → ℕ → ℕ → ℕ → ℕ
 tags_taken_by net s b first count = sum_by length (tags_on_items net (stored_in s) b first (first + count))
 
--- these tags have room in each output's buffer and in the list in which those of one output are put together, and in a sink that keeps the items,
--- which has room for these, too
+-- these tags have room in each output's buffer and in the list in which those of one output are put together, and in a
+-- sink that keeps the items, which has room for these, too
 pub record HasSpareFor (net : Network) (s : Stores) (b first count : ℕ) : Type 0 where
   pub outputs : All (λ buffer. tags_taken_by net s b first count ≤ buffer.spare) (slice_index_or (rows_in s) b [])
   pub brought : tags_taken_by net s b first count ≤ vec_capacity s.brought

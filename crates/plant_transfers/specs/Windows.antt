@@ -7,7 +7,9 @@ use Rattle.plant_laws.specs.Stored.{Stored}
 use Rattle.plant_laws.specs.Claims.{IsSeen, input_buffer, input_reader}
 use Rattle.plant_storage.specs.Lending.{takes_between}
 
--- what the reader at input p sees with the items that firings from k up to the next ones take, in items of the block's type
+-- what the reader at input p sees with the items that firings from k up to the next ones take, in items of the block's
+-- type
 pub record IsWindow (net : Network) (stored : Stored) (b p k next : ℕ) (window : Items) : Type 0 where
   pub type : type_of window ≡ (node_at net b).meaning.inputs.item
-  pub seen : IsSeen (input_buffer net stored b p).ring (input_reader net b p) (takes_between net b p k next) (numbers_of window)
+  pub seen : IsSeen (input_buffer net stored b p).ring (input_reader net b p) (takes_between net b p k next)
+      (numbers_of window)

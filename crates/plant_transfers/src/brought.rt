@@ -28,10 +28,15 @@ pub(crate) fn bring<B: Block>(
     firings: FiringRange,
     port: usize,
 )
-    requires reads { CanRead (net_of B.meaning graph.now) (stored_with handed.now (rows_of (λ row. row.items) buffers.now)) firings.block.0 firings.first firings.next }
+    requires reads { CanRead (net_of B.meaning graph.now) (stored_with handed.now
+        (rows_of (λ row. row.items) buffers.now)) firings.block.0 firings.first firings.next }
     requires tapes { firings.block.0 < length handed.now }
-    requires room { length (tags_brought (net_of B.meaning graph.now) (stored_with handed.now (rows_of (λ row. row.items) buffers.now)) firings.block.0 port firings.first firings.next) ≤ vec_capacity list.old }
-    ensures tags { map tag_of list.new.items ≡ tags_brought (net_of B.meaning graph.now) (stored_with handed.now (rows_of (λ row. row.items) buffers.now)) firings.block.0 port firings.first firings.next }
+    requires room { length (tags_brought (net_of B.meaning graph.now)
+        (stored_with handed.now (rows_of (λ row. row.items) buffers.now)) firings.block.0 port firings.first
+        firings.next) ≤ vec_capacity list.old }
+    ensures tags { map tag_of list.new.items ≡ tags_brought (net_of B.meaning graph.now)
+        (stored_with handed.now (rows_of (λ row. row.items) buffers.now)) firings.block.0 port firings.first
+        firings.next }
     ensures capacity { vec_capacity list.new ≡ vec_capacity list.old }
 {
     list.clear();
@@ -54,10 +59,15 @@ fn bring_chosen<B: Block>(
     firings: FiringRange,
     port: usize,
 )
-    requires reads { CanRead (net_of B.meaning graph.now) (stored_with [] (rows_of (λ row. row.items) buffers.now)) firings.block.0 firings.first firings.next }
+    requires reads { CanRead (net_of B.meaning graph.now) (stored_with [] (rows_of (λ row. row.items) buffers.now))
+        firings.block.0 firings.first firings.next }
     requires empty { list.old.items ≡ [] }
-    requires room { length (brought (node_at (net_of B.meaning graph.now) firings.block.0) port firings.first firings.next (tags_waiting (net_of B.meaning graph.now) (stored_with [] (rows_of (λ row. row.items) buffers.now)) firings.block.0)) ≤ vec_capacity list.old }
-    ensures tags { map tag_of list.new.items ≡ brought (node_at (net_of B.meaning graph.now) firings.block.0) port firings.first firings.next (tags_waiting (net_of B.meaning graph.now) (stored_with [] (rows_of (λ row. row.items) buffers.now)) firings.block.0) }
+    requires room { length (brought (node_at (net_of B.meaning graph.now) firings.block.0) port firings.first
+        firings.next (tags_waiting (net_of B.meaning graph.now) (stored_with []
+        (rows_of (λ row. row.items) buffers.now)) firings.block.0)) ≤ vec_capacity list.old }
+    ensures tags { map tag_of list.new.items ≡ brought (node_at (net_of B.meaning graph.now) firings.block.0) port
+        firings.first firings.next (tags_waiting (net_of B.meaning graph.now)
+        (stored_with [] (rows_of (λ row. row.items) buffers.now)) firings.block.0) }
     ensures capacity { vec_capacity list.new ≡ vec_capacity list.old }
 {
     match graph.options(firings.block).policy {
@@ -78,13 +88,16 @@ fn bring_all<B: Block>(
     graph: &Valid<B>,
     firings: FiringRange,
 )
-    requires reads { CanRead (net_of B.meaning graph.now) (stored_with [] (rows_of (λ row. row.items) buffers.now)) firings.block.0 firings.first firings.next }
+    requires reads { CanRead (net_of B.meaning graph.now) (stored_with [] (rows_of (λ row. row.items) buffers.now))
+        firings.block.0 firings.first firings.next }
     requires empty { list.old.items ≡ [] }
     requires room { let n = node_at (net_of B.meaning graph.now) firings.block.0 in
-        let waiting = tags_waiting (net_of B.meaning graph.now) (stored_with [] (rows_of (λ row. row.items) buffers.now)) firings.block.0 in
+        let waiting = tags_waiting (net_of B.meaning graph.now) (stored_with []
+        (rows_of (λ row. row.items) buffers.now)) firings.block.0 in
         length (chosen policies.All n 0 0 (tags_taken n 0 firings.first firings.next waiting)) ≤ vec_capacity list.old }
     ensures tags { let n = node_at (net_of B.meaning graph.now) firings.block.0 in
-        let waiting = tags_waiting (net_of B.meaning graph.now) (stored_with [] (rows_of (λ row. row.items) buffers.now)) firings.block.0 in
+        let waiting = tags_waiting (net_of B.meaning graph.now) (stored_with []
+        (rows_of (λ row. row.items) buffers.now)) firings.block.0 in
         map tag_of list.new.items ≡ chosen policies.All n 0 0 (tags_taken n 0 firings.first firings.next waiting) }
     ensures capacity { vec_capacity list.new ≡ vec_capacity list.old }
 {
@@ -102,14 +115,19 @@ fn bring_from<B: Block>(
     firings: FiringRange,
     port: usize,
 )
-    requires reads { CanRead (net_of B.meaning graph.now) (stored_with [] (rows_of (λ row. row.items) buffers.now)) firings.block.0 firings.first firings.next }
+    requires reads { CanRead (net_of B.meaning graph.now) (stored_with [] (rows_of (λ row. row.items) buffers.now))
+        firings.block.0 firings.first firings.next }
     requires port { port < length (writers_of (net_of B.meaning graph.now) firings.block.0) }
     requires room { let n = node_at (net_of B.meaning graph.now) firings.block.0 in
-        let waiting = tags_waiting (net_of B.meaning graph.now) (stored_with [] (rows_of (λ row. row.items) buffers.now)) firings.block.0 in
-        vec_len list.old + length (tags_within (taken_by n port firings.first) (taken_by n port firings.next) (slice_index_or waiting port [])) ≤ vec_capacity list.old }
+        let waiting = tags_waiting (net_of B.meaning graph.now) (stored_with []
+        (rows_of (λ row. row.items) buffers.now)) firings.block.0 in
+        vec_len list.old + length (tags_within (taken_by n port firings.first) (taken_by n port firings.next)
+        (slice_index_or waiting port [])) ≤ vec_capacity list.old }
     ensures tags { let n = node_at (net_of B.meaning graph.now) firings.block.0 in
-        let waiting = tags_waiting (net_of B.meaning graph.now) (stored_with [] (rows_of (λ row. row.items) buffers.now)) firings.block.0 in
-        map tag_of list.new.items ≡ map tag_of list.old.items ++ moved n port (tags_within (taken_by n port firings.first) (taken_by n port firings.next) (slice_index_or waiting port [])) }
+        let waiting = tags_waiting (net_of B.meaning graph.now) (stored_with []
+        (rows_of (λ row. row.items) buffers.now)) firings.block.0 in
+        map tag_of list.new.items ≡ map tag_of list.old.items ++ moved n port
+        (tags_within (taken_by n port firings.first) (taken_by n port firings.next) (slice_index_or waiting port [])) }
     ensures capacity { vec_capacity list.new ≡ vec_capacity list.old }
 {
     let tags = tags_on(buffers, graph, firings, port);
@@ -125,9 +143,11 @@ fn append_moved<B: Block>(
     tags: &[Tag],
 )
     requires block { block.0 < length graph.now.blocks }
-    requires places { All (λ t. (node_at (net_of B.meaning graph.now) block.0).meaning.place port t.offset < 2 ^ 63) tags.now }
+    requires places { All (λ t. (node_at (net_of B.meaning graph.now) block.0).meaning.place port t.offset < 2 ^ 63)
+        tags.now }
     requires room { vec_len list.old + length tags.now ≤ vec_capacity list.old }
-    ensures tags { map tag_of list.new.items ≡ map tag_of list.old.items ++ moved (node_at (net_of B.meaning graph.now) block.0) port (map tag_of tags.now) }
+    ensures tags { map tag_of list.new.items ≡ map tag_of list.old.items
+        ++ moved (node_at (net_of B.meaning graph.now) block.0) port (map tag_of tags.now) }
     ensures capacity { vec_capacity list.new ≡ vec_capacity list.old }
 {
     if keeps_places(graph, block, port) {
@@ -143,7 +163,8 @@ fn append_moved<B: Block>(
     }
 }
 
-// Whether it is seen at once that a tag stays on the item of its number: the block gives as many items as it takes of the input.
+// Whether it is seen at once that a tag stays on the item of its number: the block gives as many items as it takes of
+// the input.
 fn keeps_places<B: Block>(graph: &Valid<B>, block: BlockId, port: usize) -> bool
     requires { block.0 < length graph.now.blocks }
     ensures { result ≡ true → (s : ℕ) → (node_at (net_of B.meaning graph.now) block.0).meaning.place port s ≡ s }

@@ -16,8 +16,9 @@ use flowgraph::{BlockId, Valid};
 use items::Items;
 use plant_storage::Stores;
 
-/// Stores the work of `count` firings of a block, from `first` on: gives their items and the tags that they bring to the outputs that are
-/// still read, takes what they took from the inputs, and keeps the state word after them. It takes no memory.
+/// Stores the work of `count` firings of a block, from `first` on: gives their items and the tags that they bring to
+/// the outputs that are still read, takes what they took from the inputs, and keeps the state word after them. It takes
+/// no memory.
 pub fn deliver<B: Block>(
     stores: &mut Stores,
     graph: &Valid<B>,
@@ -30,7 +31,8 @@ pub fn deliver<B: Block>(
 )
     requires { CanDeliver (net_of B.meaning graph.now) stores.old block.0 first count windows.now outputs.now }
     ensures stored { stored_in stores.new
-        ≡ delivered (net_of B.meaning graph.now) (stored_in stores.old) block.0 first (first + count) (map numbers_of windows.now) (map numbers_of outputs.now) word }
+        ≡ delivered (net_of B.meaning graph.now) (stored_in stores.old) block.0 first (first + count)
+        (map numbers_of windows.now) (map numbers_of outputs.now) word }
     ensures handed { stores.new.handed ≡ stores.old.handed }
     ensures room { KeepsRoom (net_of B.meaning graph.now) block.0 stores.old stores.new }
 {

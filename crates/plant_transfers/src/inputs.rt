@@ -28,9 +28,11 @@ pub(crate) fn input_of<'a, B: Block>(
     requires block { block.0 < length graph.now.blocks }
     requires port { port < length (writers_of (net_of B.meaning graph.now) block.0) }
     requires live { let net = net_of B.meaning graph.now in
-        IsLive (input_buffer net (stored_with [] (rows_of (λ row. row.items) buffers.now)) block.0 port).ring (input_reader net block.0 port) }
+        IsLive (input_buffer net (stored_with [] (rows_of (λ row. row.items) buffers.now)) block.0 port).ring
+        (input_reader net block.0 port) }
     ensures buffer { let net = net_of B.meaning graph.now in
-        buffer_of result.0.now ≡ input_buffer net (stored_with [] (rows_of (λ row. row.items) buffers.now)) block.0 port }
+        buffer_of result.0.now ≡ input_buffer net (stored_with [] (rows_of (λ row. row.items) buffers.now)) block.0
+        port }
     ensures reader { result.1 ≡ input_reader (net_of B.meaning graph.now) block.0 port }
 {
     graph.recall();
@@ -48,13 +50,15 @@ pub(crate) fn taken<B: Block>(graph: &Valid<B>, firings: FiringRange, port: usiz
     requires rises { firings.first ≤ firings.next }
     requires words { FitsWords (net_of B.meaning graph.now) firings.block.0 firings.next }
     requires port { port < length (writers_of (net_of B.meaning graph.now) firings.block.0) }
-    ensures value { result ≡ takes_between (net_of B.meaning graph.now) firings.block.0 port firings.first firings.next }
+    ensures value { result ≡ takes_between (net_of B.meaning graph.now) firings.block.0 port firings.first
+        firings.next }
     ensures small { result < 2 ^ 62 }
 {
     graph.takes(firings.block, port, firings.first, firings.next) as usize
 }
 
-/// The tags on the items that the firings take of an input. Each claim and each commit asks for them, most often in vain.
+/// The tags on the items that the firings take of an input. Each claim and each commit asks for them, most often in
+/// vain.
 #[inline(always)]
 pub(crate) fn tags_on<'a, B: Block>(
     buffers: &'a [Vec<Buffer>],
@@ -62,12 +66,14 @@ pub(crate) fn tags_on<'a, B: Block>(
     firings: FiringRange,
     port: usize,
 ) -> &'a [Tag]
-    requires reads { CanRead (net_of B.meaning graph.now) (stored_with [] (rows_of (λ row. row.items) buffers.now)) firings.block.0 firings.first firings.next }
+    requires reads { CanRead (net_of B.meaning graph.now) (stored_with [] (rows_of (λ row. row.items) buffers.now))
+        firings.block.0 firings.first firings.next }
     requires port { port < length (writers_of (net_of B.meaning graph.now) firings.block.0) }
     ensures { let net = net_of B.meaning graph.now in
         let n = node_at net firings.block.0 in
         let waiting = tags_waiting net (stored_with [] (rows_of (λ row. row.items) buffers.now)) firings.block.0 in
-        map tag_of result.now ≡ tags_within (taken_by n port firings.first) (taken_by n port firings.next) (slice_index_or waiting port []) }
+        map tag_of result.now ≡ tags_within (taken_by n port firings.first) (taken_by n port firings.next)
+        (slice_index_or waiting port []) }
 {
     let (buffer, reader) = input_of(buffers, graph, firings.block, port);
     buffer.tags(reader, taken(graph, firings, port))

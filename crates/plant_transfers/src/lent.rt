@@ -18,8 +18,8 @@ use plant_storage::{RecentSettings, Stores};
 use settings::Held;
 use std::alloc::{AllocError, Global};
 
-/// Makes `lent` what a job of these firings is lent, in the memory that it has where that suffices. It fails only where the allocator
-/// refuses. The items that `lent` has are then left open, but none of its memory is lost.
+/// Makes `lent` what a job of these firings is lent, in the memory that it has where that suffices. It fails only where
+/// the allocator refuses. The items that `lent` has are then left open, but none of its memory is lost.
 pub fn lend<B: Block>(
     alloc: Global,
     stores: &Stores,
@@ -30,10 +30,13 @@ pub fn lend<B: Block>(
     lent: &mut Lent,
 ) -> Result<(), AllocError>
     requires { CanLend (net_of B.meaning graph.now) (stored_in stores.now) block.0 first count }
-    ensures lent { OnOk result (IsLent (net_of B.meaning graph.now) (stored_in stores.now) block.0 first count lent.new.windows.items lent.new.held.items lent.new.outputs.items) }
+    ensures lent { OnOk result (IsLent (net_of B.meaning graph.now) (stored_in stores.now) block.0 first count
+        lent.new.windows.items lent.new.held.items lent.new.outputs.items) }
     ensures succeeds { timeline_at (stored_in stores.now) block.0 ≡ None
-        → Suffices (net_of B.meaning graph.now) block.0 first (first + count) lent.old.windows.items lent.old.outputs.items → IsOk result }
-    ensures keeps { (k next : ℕ) → Suffices (net_of B.meaning graph.now) block.0 k next lent.old.windows.items lent.old.outputs.items
+        → Suffices (net_of B.meaning graph.now) block.0 first (first + count) lent.old.windows.items
+        lent.old.outputs.items → IsOk result }
+    ensures keeps { (k next : ℕ) → Suffices (net_of B.meaning graph.now) block.0 k next lent.old.windows.items
+        lent.old.outputs.items
         → Suffices (net_of B.meaning graph.now) block.0 k next lent.new.windows.items lent.new.outputs.items }
 {
     lend_windows(alloc, stores, graph, block, first, count, &mut lent.windows)?;
@@ -58,8 +61,8 @@ pub fn lend<B: Block>(
     )
 }
 
-// Makes `held` the settings in force over the items that firings `first` to below `next` of a block take of its first input, none where it
-// has no timeline.
+// Makes `held` the settings in force over the items that firings `first` to below `next` of a block take of its first
+// input, none where it has no timeline.
 fn lend_settings<B: Block>(
     alloc: Global,
     graph: &Valid<B>,

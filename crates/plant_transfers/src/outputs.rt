@@ -17,8 +17,8 @@ use flowgraph::Valid;
 use items::{Items, Tag};
 use plant_storage::Intake;
 
-/// Gives each output that is still read its items, and the tags that the firings bring. `list` is a place for these. It takes no
-/// memory.
+/// Gives each output that is still read its items, and the tags that the firings bring. `list` is a place for these. It
+/// takes no memory.
 pub(crate) fn give_all<B: Block>(
     buffers: &mut [Vec<Buffer>],
     list: &mut Vec<Tag>,
@@ -27,10 +27,14 @@ pub(crate) fn give_all<B: Block>(
     firings: FiringRange,
     outputs: &[Items],
 )
-    requires { CanGiveAll (net_of B.meaning graph.now) handed.now (rows_of (λ row. row.items) buffers.old) (vec_capacity list.old) firings.block.0 firings.first firings.next outputs.now }
+    requires { CanGiveAll (net_of B.meaning graph.now) handed.now (rows_of (λ row. row.items) buffers.old)
+        (vec_capacity list.old) firings.block.0 firings.first firings.next outputs.now }
     ensures outputs { outputs_of (λ row. row.items) buffers.new
-        ≡ delivered_buffers (net_of B.meaning graph.now) (stored_with handed.now (rows_of (λ row. row.items) buffers.old)) firings.block.0 firings.first firings.next (map numbers_of outputs.now) }
-    ensures others { (a q : ℕ) → (a ≡ firings.block.0 → ⊥) → state_in (rows_of (λ row. row.items) buffers.new) a q ≡ state_in (rows_of (λ row. row.items) buffers.old) a q }
+        ≡ delivered_buffers (net_of B.meaning graph.now) (stored_with handed.now
+        (rows_of (λ row. row.items) buffers.old)) firings.block.0 firings.first firings.next
+        (map numbers_of outputs.now) }
+    ensures others { (a q : ℕ) → (a ≡ firings.block.0 → ⊥) → state_in (rows_of (λ row. row.items) buffers.new) a q
+        ≡ state_in (rows_of (λ row. row.items) buffers.old) a q }
     ensures capacity { vec_capacity list.new ≡ vec_capacity list.old }
 {
     graph.recall();
@@ -49,13 +53,19 @@ fn give<B: Block>(
     port: usize,
     items: &Items,
 )
-    requires reads { CanRead (net_of B.meaning graph.now) (stored_with handed.now (rows_of (λ row. row.items) buffers.old)) firings.block.0 firings.first firings.next }
+    requires reads { CanRead (net_of B.meaning graph.now) (stored_with handed.now
+        (rows_of (λ row. row.items) buffers.old)) firings.block.0 firings.first firings.next }
     requires tapes { firings.block.0 < length handed.now }
-    requires gives { CanGiveTo (net_of B.meaning graph.now) handed.now (rows_of (λ row. row.items) buffers.old) (vec_capacity list.old) firings.block.0 port firings.first firings.next items.now }
-    ensures outputs { let brought = tags_brought (net_of B.meaning graph.now) (stored_with handed.now (rows_of (λ row. row.items) buffers.old)) firings.block.0 port firings.first firings.next in
+    requires gives { CanGiveTo (net_of B.meaning graph.now) handed.now (rows_of (λ row. row.items) buffers.old)
+        (vec_capacity list.old) firings.block.0 port firings.first firings.next items.now }
+    ensures outputs { let brought = tags_brought (net_of B.meaning graph.now)
+        (stored_with handed.now (rows_of (λ row. row.items) buffers.old)) firings.block.0 port firings.first
+        firings.next in
         outputs_of (λ row. row.items) buffers.new
-        ≡ with_buffer (outputs_of (λ row. row.items) buffers.old) firings.block.0 port (λ buffer. delivered_to buffer (numbers_of items.now) brought) }
-    ensures others { OthersStay firings.block.0 port (rows_of (λ row. row.items) buffers.old) (rows_of (λ row. row.items) buffers.new) }
+        ≡ with_buffer (outputs_of (λ row. row.items) buffers.old) firings.block.0 port
+        (λ buffer. delivered_to buffer (numbers_of items.now) brought) }
+    ensures others { OthersStay firings.block.0 port (rows_of (λ row. row.items) buffers.old)
+        (rows_of (λ row. row.items) buffers.new) }
     ensures capacity { vec_capacity list.new ≡ vec_capacity list.old }
 {
     let row = &buffers[firings.block.0 as usize];

@@ -69,7 +69,8 @@ pub(crate) fn ready_places(
 ) -> Result<(), AllocError>
     ensures long { OnOk result (length places.new.items ≡ count) }
     ensures ready { OnOk result (All (IsPlace item room) places.new.items) }
-    ensures succeeds { ArePlaces item count places.old.items → All (λ p. room ≤ room_of p) places.old.items → IsOk result }
+    ensures succeeds { ArePlaces item count places.old.items → All (λ p. room ≤ room_of p) places.old.items
+        → IsOk result }
     ensures keeps { ArePlaces item count places.old.items → KeepRoom places.old.items places.new.items }
 {
     resize(alloc, places, count, item)?;

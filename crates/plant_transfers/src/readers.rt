@@ -15,10 +15,12 @@ use flowgraph::{BlockId, Valid};
 
 /// The readers of the inputs take what the firings take.
 pub(crate) fn take<B: Block>(buffers: &mut [Vec<Buffer>], graph: &Valid<B>, firings: FiringRange)
-    requires { CanTakeAll (net_of B.meaning graph.now) (outputs_of (λ row. row.items) buffers.old) firings.block.0 firings.first firings.next }
+    requires { CanTakeAll (net_of B.meaning graph.now) (outputs_of (λ row. row.items) buffers.old) firings.block.0
+        firings.first firings.next }
     ensures outputs { let net = net_of B.meaning graph.now in
         outputs_of (λ row. row.items) buffers.new
-        ≡ taken_buffers net firings.block.0 firings.first firings.next (writers_of net firings.block.0) (outputs_of (λ row. row.items) buffers.old) }
+        ≡ taken_buffers net firings.block.0 firings.first firings.next (writers_of net firings.block.0)
+        (outputs_of (λ row. row.items) buffers.old) }
     ensures room { HasNoLessRoom (rows_of (λ row. row.items) buffers.old) (rows_of (λ row. row.items) buffers.new) }
 {
     graph.recall();
@@ -31,7 +33,8 @@ pub(crate) fn take<B: Block>(buffers: &mut [Vec<Buffer>], graph: &Valid<B>, firi
 pub(crate) fn leave<B: Block>(buffers: &mut [Vec<Buffer>], graph: &Valid<B>, block: BlockId)
     requires { CanLeaveAll (net_of B.meaning graph.now) (outputs_of (λ row. row.items) buffers.old) block.0 }
     ensures outputs { let net = net_of B.meaning graph.now in
-        outputs_of (λ row. row.items) buffers.new ≡ released_buffers net (writers_of net block.0) (outputs_of (λ row. row.items) buffers.old) }
+        outputs_of (λ row. row.items) buffers.new ≡ released_buffers net (writers_of net block.0)
+        (outputs_of (λ row. row.items) buffers.old) }
     ensures room { HasNoLessRoom (rows_of (λ row. row.items) buffers.old) (rows_of (λ row. row.items) buffers.new) }
 {
     graph.recall();

@@ -15,7 +15,8 @@ use flowgraph::{BlockId, Valid};
 use plant_storage::{Recording, Stores};
 use std::alloc::AllocError;
 
-/// Makes room for all that the commit of these firings stores. What is stored stays the same. It fails only where the allocator refuses.
+/// Makes room for all that the commit of these firings stores. What is stored stays the same. It fails only where the
+/// allocator refuses.
 pub fn make_room<B: Block>(
     stores: &mut Stores,
     graph: &Valid<B>,
@@ -53,8 +54,10 @@ fn count_tags<B: Block>(
     count: u32,
 ) -> Result<usize, AllocError>
     requires { CanLend (net_of B.meaning graph.now) (stored_in stores.now) block.0 first count }
-    ensures sum { IfOk result (λ n. n ≡ sum_by length (tags_on_items (net_of B.meaning graph.now) (stored_in stores.now) block.0 first (first + count))) }
-    ensures succeeds { sum_by length (tags_on_items (net_of B.meaning graph.now) (stored_in stores.now) block.0 first (first + count)) < 2 ^ 64 → IsOk result }
+    ensures sum { IfOk result (λ n. n ≡ sum_by length (tags_on_items (net_of B.meaning graph.now) (stored_in stores.now)
+        block.0 first (first + count))) }
+    ensures succeeds { sum_by length (tags_on_items (net_of B.meaning graph.now) (stored_in stores.now) block.0 first
+        (first + count)) < 2 ^ 64 → IsOk result }
 {
     graph.recall();
     let firings = FiringRange::new(block, first, count);
@@ -74,10 +77,12 @@ fn count_tags<B: Block>(
 // Makes room for so many more tags in each buffer of a row.
 fn reserve_outputs(rows: &mut [Vec<Buffer>], at: usize, tags: usize) -> Result<(), AllocError>
     requires { at < length rows.old }
-    ensures stored { map (map buffer_of) (map (λ row. row.items) rows.new) ≡ map (map buffer_of) (map (λ row. row.items) rows.old) }
+    ensures stored { map (map buffer_of) (map (λ row. row.items) rows.new)
+        ≡ map (map buffer_of) (map (λ row. row.items) rows.old) }
     ensures room { OnOk result (All (λ b. tags ≤ b.spare) (slice_index_or (map (λ row. row.items) rows.new) at [])) }
     ensures keeps { HasNoLessRoom (rows_of (λ row. row.items) rows.old) (rows_of (λ row. row.items) rows.new) }
-    ensures succeeds { All (λ b. tags ≤ b.spare) (slice_index_or (map (λ row. row.items) rows.old) at []) → IsOk result }
+    ensures succeeds { All (λ b. tags ≤ b.spare) (slice_index_or (map (λ row. row.items) rows.old) at [])
+        → IsOk result }
 {
     reserve_tags(&mut rows[at], tags)
 }
@@ -86,7 +91,8 @@ fn reserve_outputs(rows: &mut [Vec<Buffer>], at: usize, tags: usize) -> Result<(
 fn reserve_tags(buffers: &mut [Buffer], tags: usize) -> Result<(), AllocError>
     ensures stored { map buffer_of buffers.new ≡ map buffer_of buffers.old }
     ensures room { OnOk result (All (λ b. tags ≤ b.spare) buffers.new) }
-    ensures keeps { (p : ℕ) → (slice_index_or buffers.old p no_buffer).spare ≤ (slice_index_or buffers.new p no_buffer).spare }
+    ensures keeps { (p : ℕ) → (slice_index_or buffers.old p no_buffer).spare ≤ (slice_index_or buffers.new p
+        no_buffer).spare }
     ensures succeeds { All (λ b. tags ≤ b.spare) buffers.old → IsOk result }
 {
     for buffer in buffers.iter_mut() {
@@ -105,7 +111,8 @@ fn reserve_sink(
     requires { at < length sinks.old }
     ensures stored { map collected_of sinks.new ≡ map collected_of sinks.old }
     ensures room { OnOk result (HasSpare items tags (slice_index_or sinks.new at no_sink)) }
-    ensures keeps { (a : ℕ) → let old = slice_index_or sinks.old a no_sink in HasSpare old.spare_items old.spare_tags (slice_index_or sinks.new a no_sink) }
+    ensures keeps { (a : ℕ) → let old = slice_index_or sinks.old a no_sink in HasSpare old.spare_items old.spare_tags
+        (slice_index_or sinks.new a no_sink) }
     ensures succeeds { HasSpare items tags (slice_index_or sinks.old at no_sink) → IsOk result }
 {
     sinks[at].reserve(items, tags)

@@ -24,12 +24,15 @@ pub(crate) fn collect<B: Block>(
     firings: FiringRange,
     windows: &[Items],
 )
-    requires reads { CanRead (net_of B.meaning graph.now) (stored_with [] (rows_of (λ row. row.items) buffers.now)) firings.block.0 firings.first firings.next }
+    requires reads { CanRead (net_of B.meaning graph.now) (stored_with [] (rows_of (λ row. row.items) buffers.now))
+        firings.block.0 firings.first firings.next }
     requires sink { firings.block.0 < length sinks.old }
     requires keeps { is_keeper (role_at (net_of B.meaning graph.now) firings.block.0) ≡ true
-        → CanKeep (net_of B.meaning graph.now) (rows_of (λ row. row.items) buffers.now) sinks.old firings.block.0 firings.first firings.next windows.now }
+        → CanKeep (net_of B.meaning graph.now) (rows_of (λ row. row.items) buffers.now) sinks.old firings.block.0
+        firings.first firings.next windows.now }
     ensures sinks { map collected_of sinks.new
-        ≡ delivered_sinks (net_of B.meaning graph.now) (stored_of [] [] (rows_of (λ row. row.items) buffers.now) sinks.old) firings.block.0 firings.first firings.next (map numbers_of windows.now) }
+        ≡ delivered_sinks (net_of B.meaning graph.now) (stored_of [] [] (rows_of (λ row. row.items) buffers.now)
+        sinks.old) firings.block.0 firings.first firings.next (map numbers_of windows.now) }
     ensures others { (a : ℕ) → (a ≡ firings.block.0 → ⊥) → sink_in sinks.new a ≡ sink_in sinks.old a }
 {
     graph.recall();

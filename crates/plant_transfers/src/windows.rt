@@ -32,11 +32,15 @@ pub(crate) fn lend_windows<B: Block>(
     windows: &mut Vec<Items>,
 ) -> Result<(), AllocError>
     requires { CanLend (net_of B.meaning graph.now) (stored_in stores.now) block.0 first count }
-    ensures windows { OnOk result (AreWindows (net_of B.meaning graph.now) (stored_in stores.now) block.0 first count (map numbers_of windows.new.items)) }
-    ensures types { OnOk result (All (λ w. type_of w ≡ (node_at (net_of B.meaning graph.now) block.0).meaning.inputs.item) windows.new.items) }
-    ensures succeeds { HoldWindows (net_of B.meaning graph.now) block.0 first (first + count) windows.old.items → IsOk result }
+    ensures windows { OnOk result (AreWindows (net_of B.meaning graph.now) (stored_in stores.now) block.0 first count
+        (map numbers_of windows.new.items)) }
+    ensures types { OnOk result (All (λ w. type_of w ≡ (node_at (net_of B.meaning graph.now)
+        block.0).meaning.inputs.item) windows.new.items) }
+    ensures succeeds { HoldWindows (net_of B.meaning graph.now) block.0 first (first + count) windows.old.items
+        → IsOk result }
     ensures keeps { let net = net_of B.meaning graph.now in
-        ArePlaces (node_at net block.0).meaning.inputs.item (windows_of net block.0) windows.old.items → KeepRoom windows.old.items windows.new.items }
+        ArePlaces (node_at net block.0).meaning.inputs.item (windows_of net block.0) windows.old.items
+        → KeepRoom windows.old.items windows.new.items }
 {
     graph.recall();
     let firings = FiringRange::new(block, first, count);
@@ -80,15 +84,19 @@ fn read_inputs<B: Block>(
     firings: FiringRange,
     windows: &mut [Items],
 ) -> Result<(), AllocError>
-    requires reads { CanRead (net_of B.meaning graph.now) (stored_with [] (rows_of (λ row. row.items) buffers.now)) firings.block.0 firings.first firings.next }
+    requires reads { CanRead (net_of B.meaning graph.now) (stored_with [] (rows_of (λ row. row.items) buffers.now))
+        firings.block.0 firings.first firings.next }
     requires many { length windows.old ≡ length (writers_of (net_of B.meaning graph.now) firings.block.0) }
     ensures read { OnOk result ((p : ℕ) (d : Items) → p < length windows.new
-        → IsWindow (net_of B.meaning graph.now) (stored_with [] (rows_of (λ row. row.items) buffers.now)) firings.block.0 p firings.first firings.next (slice_index_or windows.new p d)) }
+        → IsWindow (net_of B.meaning graph.now) (stored_with [] (rows_of (λ row. row.items) buffers.now))
+        firings.block.0 p firings.first firings.next (slice_index_or windows.new p d)) }
     ensures succeeds { let net = net_of B.meaning graph.now in let n = node_at net firings.block.0 in
         All (λ w. type_of w ≡ n.meaning.inputs.item) windows.old
-        → ((p : ℕ) (d : Items) → p < length windows.old → n.meaning.history - 1 + takes_between net firings.block.0 p firings.first firings.next ≤ room_of (slice_index_or windows.old p d))
+        → ((p : ℕ) (d : Items) → p < length windows.old → n.meaning.history - 1 + takes_between net firings.block.0 p
+        firings.first firings.next ≤ room_of (slice_index_or windows.old p d))
         → IsOk result }
-    ensures keeps { All (λ w. type_of w ≡ (node_at (net_of B.meaning graph.now) firings.block.0).meaning.inputs.item) windows.old → KeepRoom windows.old windows.new }
+    ensures keeps { All (λ w. type_of w ≡ (node_at (net_of B.meaning graph.now) firings.block.0).meaning.inputs.item)
+        windows.old → KeepRoom windows.old windows.new }
 {
     for (port, window) in windows.iter_mut().enumerate() {
         read_input(alloc, buffers, graph, firings, port, window)?;
@@ -105,12 +113,17 @@ fn read_input<B: Block>(
     port: usize,
     window: &mut Items,
 ) -> Result<(), AllocError>
-    requires reads { CanRead (net_of B.meaning graph.now) (stored_with [] (rows_of (λ row. row.items) buffers.now)) firings.block.0 firings.first firings.next }
+    requires reads { CanRead (net_of B.meaning graph.now) (stored_with [] (rows_of (λ row. row.items) buffers.now))
+        firings.block.0 firings.first firings.next }
     requires port { port < length (writers_of (net_of B.meaning graph.now) firings.block.0) }
-    ensures read { OnOk result (IsWindow (net_of B.meaning graph.now) (stored_with [] (rows_of (λ row. row.items) buffers.now)) firings.block.0 port firings.first firings.next window.new) }
+    ensures read { OnOk result (IsWindow (net_of B.meaning graph.now)
+        (stored_with [] (rows_of (λ row. row.items) buffers.now)) firings.block.0 port firings.first firings.next
+        window.new) }
     ensures succeeds { let net = net_of B.meaning graph.now in let n = node_at net firings.block.0 in
-        type_of window.old ≡ n.meaning.inputs.item → n.meaning.history - 1 + takes_between net firings.block.0 port firings.first firings.next ≤ room_of window.old → IsOk result }
-    ensures keeps { type_of window.old ≡ (node_at (net_of B.meaning graph.now) firings.block.0).meaning.inputs.item → KeepsRoom window.old window.new }
+        type_of window.old ≡ n.meaning.inputs.item → n.meaning.history - 1 + takes_between net firings.block.0 port
+        firings.first firings.next ≤ room_of window.old → IsOk result }
+    ensures keeps { type_of window.old ≡ (node_at (net_of B.meaning graph.now) firings.block.0).meaning.inputs.item
+        → KeepsRoom window.old window.new }
 {
     let (buffer, reader) = input_of(buffers, graph, firings.block, port);
     let takes = taken(graph, firings, port);

@@ -38,10 +38,15 @@ stream_mux_of-lawful b = stream_mux-lawful b.item (lengths_of b) b.is_mux
 
 -- blocks that the derived test finds equal mean the same
 pub stream_mux_of-same :
-    (a b : StreamMux) → (sameb the_type a.item b.item && (pointwise nat_eq a.lengths b.lengths && nat_eq a.count b.count)) ≡ true → stream_mux_of a ≡ stream_mux_of b
+    (a b : StreamMux) → (sameb the_type a.item b.item && (pointwise nat_eq a.lengths b.lengths && nat_eq a.count
+    b.count)) ≡ true → stream_mux_of a ≡ stream_mux_of b
 stream_mux_of-same a b e =
-    let rest = second_so (sameb the_type a.item b.item) (pointwise nat_eq a.lengths b.lengths && nat_eq a.count b.count) e in
-    let items_same = same_item a.item b.item (first_so (sameb the_type a.item b.item) (pointwise nat_eq a.lengths b.lengths && nat_eq a.count b.count) e) in
-    let lengths_same = same_text a.lengths b.lengths (sym (first_so (pointwise nat_eq a.lengths b.lengths) (nat_eq a.count b.count) rest)) in
-    let counts_same = same_number a.count b.count (second_so (pointwise nat_eq a.lengths b.lengths) (nat_eq a.count b.count) rest) in
+    let rest = second_so (sameb the_type a.item b.item) (pointwise nat_eq a.lengths b.lengths && nat_eq a.count b.count)
+    e in
+    let items_same = same_item a.item b.item (first_so (sameb the_type a.item b.item)
+    (pointwise nat_eq a.lengths b.lengths && nat_eq a.count b.count) e) in
+    let lengths_same = same_text a.lengths b.lengths (sym (first_so (pointwise nat_eq a.lengths b.lengths)
+    (nat_eq a.count b.count) rest)) in
+    let counts_same = same_number a.count b.count (second_so (pointwise nat_eq a.lengths b.lengths)
+    (nat_eq a.count b.count) rest) in
     λ i. stream_mux (items_same i) (take (counts_same i) (lengths_same i))

@@ -28,4 +28,7 @@ last_of_frame n xs k some =
     ∙ ap (item xs) (omega (arith, some))
 
 pub lasts-framed : (t : ItemType) (n : ℕ) → 1 ≤ n → framed t n last_of ≡ keep_one_in_n t n
-lasts-framed t n some = λ i. record (at_rate (ports 1 t) (ports 1 t) n 1) { out = λ ts xs p k. last_of_frame n (input xs 0) k some i }
+lasts-framed t n some = λ i. record (at_rate (ports 1 t) (ports 1 t) n 1) {
+  out = λ ts xs p k. last_of_frame n
+      (input xs 0) k some i;
+}

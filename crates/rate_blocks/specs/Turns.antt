@@ -12,8 +12,10 @@ pub record CanTurn (t : Turn) (xs ys : List ℤ) : Type 0 where
 
 -- in each round the input's items stand at the turn's place, and all other places are as they were
 pub record HasTurned (t : Turn) (xs ys zs : List ℤ) : Type 0 where
-  pub written : (g r : ℕ) → g < t.rounds → r < t.length → item zs (g * t.all + (t.before + r)) ≡ item xs (g * t.length + r)
-  pub kept : (g r : ℕ) → r < t.all → ((r < t.before) ⊎ (t.before + t.length ≤ r)) → item zs (g * t.all + r) ≡ item ys (g * t.all + r)
+  pub written : (g r : ℕ) → g < t.rounds → r < t.length → item zs (g * t.all + (t.before + r))
+      ≡ item xs (g * t.length + r)
+  pub kept : (g r : ℕ) → r < t.all → ((r < t.before) ⊎ (t.before + t.length ≤ r)) → item zs (g * t.all + r)
+      ≡ item ys (g * t.all + r)
 
 -- the turn of an input where inputs take turns of these lengths
 pub record IsTurnOf (lengths : List ℕ) (rounds port : ℕ) (t : Turn) : Type 0 where

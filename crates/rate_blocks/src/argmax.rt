@@ -7,8 +7,8 @@ use crate::per_frame::{MakesOne, PerFrame};
 use numbers::Number;
 use numbers::vectors::are_in_range;
 
-/// The place of the first of the greatest of each `n` items, counted from 0 and wrapped to the items' type, as the first output of GNU Radio's
-/// `argmax_xx` of one stream, which gives shorts.
+/// The place of the first of the greatest of each `n` items, counted from 0 and wrapped to the items' type, as the
+/// first output of GNU Radio's `argmax_xx` of one stream, which gives shorts.
 pub type Argmax = Counted<PerFrame<Places>>;
 
 /// The wrapped place of the first of the greatest items of a frame.

@@ -11,8 +11,8 @@ use item_dispatch::{LaneWork, make_items};
 use items::{ItemType, Items};
 use lane_kernels::SimdLane;
 
-/// For each item its number modulo `n`, from 0 on, wrapped to the items' type: the input is only its clock. GNU Radio has no block like it; a
-/// `vector_source` that repeats stands for it there.
+/// For each item its number modulo `n`, from 0 on, wrapped to the items' type: the input is only its clock. GNU Radio
+/// has no block like it; a `vector_source` that repeats stands for it there.
 pub type Counter = Counted<Counts>;
 
 /// The numbers of items modulo `n`, 1 to 2^31.

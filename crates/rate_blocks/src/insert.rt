@@ -13,9 +13,10 @@ use numbers::range::is_item;
 use numbers::vectors::copied;
 use std::alloc::Global;
 
-/// The values once in each `period` items of the output, from item `offset` of these on, and the input in all other places. GNU Radio's
-/// `vector_insert` has the values first in each period, and its `offset` says at which item of one its output begins: it gives the same with `period`
-/// less the offset here, or 0 for 0. Its output may begin amid the values, which then wrap around; here they lie whole in each period.
+/// The values once in each `period` items of the output, from item `offset` of these on, and the input in all other
+/// places. GNU Radio's `vector_insert` has the values first in each period, and its `offset` says at which item of one
+/// its output begins: it gives the same with `period` less the offset here, or 0 for 0. Its output may begin amid the
+/// values, which then wrap around; here they lie whole in each period.
 #[derive(Debug, Drop, PartialEq, Eq)]
 pub struct Insert {
     item: ItemType,
@@ -53,8 +54,9 @@ fn first_bad(item: ItemType, values: &[i64], period: u64, offset: u64) -> Option
 impl Insert {
     ghost use Rattle.rate_blocks.specs.Framed.{insert_of};
 
-    /// The block with a copy of 1 to 256 values of the type, a `period` above their number and up to 1,024, and an `offset` by which they end in the
-    /// period. `BadParameter` names the first that is not so, in this order; `Memory` comes only where the allocator refuses the copy.
+    /// The block with a copy of 1 to 256 values of the type, a `period` above their number and up to 1,024, and an
+    /// `offset` by which they end in the period. `BadParameter` names the first that is not so, in this order; `Memory`
+    /// comes only where the allocator refuses the copy.
     pub fn new(
         alloc: Global,
         item: ItemType,

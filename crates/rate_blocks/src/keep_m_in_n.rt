@@ -9,8 +9,8 @@ use item_dispatch::{LaneWork, make_items};
 use items::{ItemType, Items};
 use lane_kernels::SimdLane;
 
-/// Of each `n` items the `m` from item `offset` on, as GNU Radio's `keep_m_in_n`. There `offset` may be any number below `n`: here the items that are
-/// kept lie whole in the `n`.
+/// Of each `n` items the `m` from item `offset` on, as GNU Radio's `keep_m_in_n`. There `offset` may be any number
+/// below `n`: here the items that are kept lie whole in the `n`.
 #[derive(Debug, Drop, PartialEq, Eq)]
 pub struct KeepMInN {
     item: ItemType,
@@ -23,14 +23,16 @@ pub struct KeepMInN {
 impl KeepMInN {
     ghost use Rattle.rate_blocks.specs.Framed.{keep_m_in_n_of};
 
-    /// The block with an `m` of 1 to 1,024, an `n` of `m` to 1,024 and an `offset` of 0 to `n - m`; `BadParameter` names the first that is outside,
-    /// in this order.
+    /// The block with an `m` of 1 to 1,024, an `n` of `m` to 1,024 and an `offset` of 0 to `n - m`; `BadParameter`
+    /// names the first that is outside, in this order.
     pub fn new(item: ItemType, m: u64, n: u64, offset: u64) -> Result<KeepMInN, ParamFault>
         ensures meaning { IfOk result (λ block. keep_m_in_n_of block ≡ keep_m_in_n item m n offset) }
         ensures range { IsOk result ↔ IsKept m n offset }
         ensures bad_m { IsErrOf result (ParamFault.BadParameter Parameter.M) ↔ ((m < 1) ⊎ (1024 < m)) }
-        ensures bad_n { IsErrOf result (ParamFault.BadParameter Parameter.N) ↔ ((1 ≤ m) × (m ≤ 1024) × ((n < m) ⊎ (1024 < n))) }
-        ensures bad_offset { IsErrOf result (ParamFault.BadParameter Parameter.Offset) ↔ ((1 ≤ m) × (m ≤ n) × (n ≤ 1024) × (n < offset + m)) }
+        ensures bad_n { IsErrOf result (ParamFault.BadParameter Parameter.N)
+            ↔ ((1 ≤ m) × (m ≤ 1024) × ((n < m) ⊎ (1024 < n))) }
+        ensures bad_offset { IsErrOf result (ParamFault.BadParameter Parameter.Offset)
+            ↔ ((1 ≤ m) × (m ≤ n) × (n ≤ 1024) × (n < offset + m)) }
     {
         if m < 1 || 1_024 < m {
             return Err(ParamFault::BadParameter(Parameter::M));
@@ -64,7 +66,8 @@ fn copy_kept<T: SimdLane>(kept: &Kept, m: usize, items: &[T], out: &mut [T])
     requires m { m ≡ kept.now.m }
     requires taken { length items.now ≡ kept.now.n * kept.now.rounds }
     requires given { length out.old ≡ kept.now.m * kept.now.rounds }
-    ensures { map T.number out.new ≡ listed (length out.old) (λ k. item (map T.number items.now) (k / kept.now.m * kept.now.n + kept.now.offset + k % kept.now.m)) }
+    ensures { map T.number out.new ≡ listed (length out.old) (λ k. item (map T.number items.now)
+        (k / kept.now.m * kept.now.n + kept.now.offset + k % kept.now.m)) }
 {
     let (rounds, n, offset) = (kept.rounds, kept.n, kept.offset);
     for k in 0..rounds {

@@ -14,8 +14,8 @@ use lane_kernels::SimdLane;
 use numbers::vectors::copied;
 use std::alloc::Global;
 
-/// A list of 1 to 256 values again and again, an item for each item of the input, which is only its clock. GNU Radio has no block like it; a
-/// `vector_source` that repeats stands for it there.
+/// A list of 1 to 256 values again and again, an item for each item of the input, which is only its clock. GNU Radio
+/// has no block like it; a `vector_source` that repeats stands for it there.
 #[derive(Debug, Drop, PartialEq, Eq)]
 pub struct Pattern {
     item: ItemType,
@@ -26,14 +26,15 @@ pub struct Pattern {
 impl Pattern {
     ghost use Rattle.rate_blocks.specs.Framed.{pattern_of};
 
-    /// The block with a copy of 1 to 256 values of the type. `BadParameter` where they are not so, before any memory is asked for; `Memory` only where
-    /// the allocator refuses the copy.
+    /// The block with a copy of 1 to 256 values of the type. `BadParameter` where they are not so, before any memory is
+    /// asked for; `Memory` only where the allocator refuses the copy.
     pub fn new(alloc: Global, item: ItemType, values: &[i64]) -> Result<Pattern, ParamFault>
         ensures meaning { IfOk result (λ block. pattern_of block ≡ pattern item values.now) }
         ensures range { OnOk result (AreValues item values.now) }
         ensures bad { IsErrOf result (ParamFault.BadParameter Parameter.Values) ↔ (¬ AreValues item values.now) }
         ensures memory { IsErrOf result ParamFault.Memory → AreValues item values.now }
-        ensures err { IfErr result (λ fault. (fault ≡ ParamFault.BadParameter Parameter.Values) ⊎ (fault ≡ ParamFault.Memory)) }
+        ensures err { IfErr result (λ fault. (fault ≡ ParamFault.BadParameter Parameter.Values)
+            ⊎ (fault ≡ ParamFault.Memory)) }
     {
         if !are_values(item, values) {
             return Err(ParamFault::BadParameter(Parameter::Values));

@@ -14,8 +14,9 @@ use lane_kernels::SimdLane;
 use numbers::vectors::narrowed;
 use std::alloc::Global;
 
-/// The items of each frame in another order: item `order[j]` of a frame goes to place `j` of it. A frame has as many items as the order has places. A tag
-/// stays at its place. Block interleavers are made of it, and undone by it; GNU Radio's `patterned_interleaver` takes its items of several streams.
+/// The items of each frame in another order: item `order[j]` of a frame goes to place `j` of it. A frame has as many
+/// items as the order has places. A tag stays at its place. Block interleavers are made of it, and undone by it; GNU
+/// Radio's `patterned_interleaver` takes its items of several streams.
 #[derive(Debug, Drop, PartialEq, Eq)]
 pub struct Permute {
     item: ItemType,
@@ -57,14 +58,15 @@ fn are_places(places: &[i64]) -> bool
 impl Permute {
     ghost use Rattle.rate_blocks.specs.Framed.{permute_of};
 
-    /// The block with a copy of this order. `BadParameter` where it is empty, has more than 256 places, a number that is no place, or one twice, before
-    /// any memory is asked for; `Memory` only where the allocator refuses the copy.
+    /// The block with a copy of this order. `BadParameter` where it is empty, has more than 256 places, a number that
+    /// is no place, or one twice, before any memory is asked for; `Memory` only where the allocator refuses the copy.
     pub fn new(alloc: Global, item: ItemType, places: &[i64]) -> Result<Permute, ParamFault>
         ensures meaning { IfOk result (λ block. permute_of block ≡ permute item (unsigned places.now)) }
         ensures range { OnOk result (ArePlaces places.now) }
         ensures bad { IsErrOf result (ParamFault.BadParameter Parameter.Places) ↔ (¬ ArePlaces places.now) }
         ensures memory { IsErrOf result ParamFault.Memory → ArePlaces places.now }
-        ensures err { IfErr result (λ fault. (fault ≡ ParamFault.BadParameter Parameter.Places) ⊎ (fault ≡ ParamFault.Memory)) }
+        ensures err { IfErr result (λ fault. (fault ≡ ParamFault.BadParameter Parameter.Places)
+            ⊎ (fault ≡ ParamFault.Memory)) }
     {
         if !are_places(places) {
             return Err(ParamFault::BadParameter(Parameter::Places));
@@ -88,7 +90,8 @@ fn reorder<T: SimdLane>(order: &[u8], items: &[T], out: &mut [T])
     requires order { IsOrder order.now }
     requires taken { length items.now ≡ length order.now }
     requires given { length out.old ≡ length order.now }
-    ensures { map T.number out.new ≡ listed (length order.now) (λ j. item (map T.number items.now) (from_place order.now j)) }
+    ensures { map T.number out.new ≡ listed (length order.now) (λ j. item (map T.number items.now)
+        (from_place order.now j)) }
 {
     for j in 0..order.len() {
         out[j] = items[order[j] as usize];

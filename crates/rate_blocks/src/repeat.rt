@@ -33,12 +33,13 @@ impl AppendWork for Copies {
     }
 }
 
-// Appends each item `n` times, where the capacity has room. The loop appends to a vector of its own, whose length and place in memory stay in
-// registers then.
+// Appends each item `n` times, where the capacity has room. The loop appends to a vector of its own, whose length and
+// place in memory stay in registers then.
 fn repeat_each<T: SimdLane>(items: &[T], n: usize, out: &mut Vec<T>)
     requires some { 1 ≤ n }
     requires room { vec_len out.old + n * length items.now ≤ vec_capacity out.old }
-    ensures items { map T.number out.new.items ≡ map T.number out.old.items ++ repeated n (map T.number items.now) (length items.now) }
+    ensures items { map T.number out.new.items ≡ map T.number out.old.items
+        ++ repeated n (map T.number items.now) (length items.now) }
     ensures capacity { vec_capacity out.old ≤ vec_capacity out.new }
 {
     let alloc = *out.allocator();
@@ -62,7 +63,8 @@ fn repeat_each<T: SimdLane>(items: &[T], n: usize, out: &mut Vec<T>)
 fn push_each<T: SimdLane>(items: &[T], n: usize, made: &mut Vec<T>)
     requires some { 1 ≤ n }
     requires room { vec_len made.old + n * length items.now ≤ vec_capacity made.old }
-    ensures items { map T.number made.new.items ≡ map T.number made.old.items ++ repeated n (map T.number items.now) (length items.now) }
+    ensures items { map T.number made.new.items ≡ map T.number made.old.items
+        ++ repeated n (map T.number items.now) (length items.now) }
     ensures capacity { vec_capacity made.new ≡ vec_capacity made.old }
 {
     for at in 0..items.len() {

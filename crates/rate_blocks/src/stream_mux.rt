@@ -11,8 +11,8 @@ use items::{ItemType, Items};
 /// The most inputs.
 const MOST: usize = 16;
 
-/// So many items of the first input, then so many of the next, and so on, round after round, as GNU Radio's `stream_mux`, which gives the beginning
-/// of a round too: here only whole rounds are given. A tag stays on its item.
+/// So many items of the first input, then so many of the next, and so on, round after round, as GNU Radio's
+/// `stream_mux`, which gives the beginning of a round too: here only whole rounds are given. A tag stays on its item.
 #[derive(Debug, Drop, PartialEq, Eq)]
 pub struct StreamMux {
     item: ItemType,
@@ -26,7 +26,8 @@ pub struct StreamMux {
 
 // Whether there are 1 to 16 lengths, each of 1 to 1,024.
 fn are_in_range(lengths: &[i64]) -> bool
-    ensures { IsTrue result ↔ ((1 ≤ length lengths.now) × (length lengths.now ≤ 16) × All (λ z. (pos 1 ≤ℤ z) × (z ≤ℤ pos 1024)) lengths.now) }
+    ensures { IsTrue result ↔ ((1 ≤ length lengths.now) × (length lengths.now ≤ 16)
+        × All (λ z. (pos 1 ≤ℤ z) × (z ≤ℤ pos 1024)) lengths.now) }
 {
     !lengths.is_empty() && lengths.len() <= MOST && lengths.iter().all(|n| 1 <= *n && *n <= 1_024)
 }
@@ -61,8 +62,8 @@ fn counts(lengths: &[i64]) -> [u32; MOST]
 impl StreamMux {
     ghost use Rattle.rate_blocks.specs.Mux.{lengths_of, stream_mux_of};
 
-    /// The block with an input for each of these lengths in items; `BadParameter` where they are not 1 to 16 numbers of 1 or more, at most 1,024
-    /// together.
+    /// The block with an input for each of these lengths in items; `BadParameter` where they are not 1 to 16 numbers of
+    /// 1 or more, at most 1,024 together.
     pub fn new(item: ItemType, lengths: &[i64]) -> Result<StreamMux, ParamFault>
         ensures meaning { IfOk result (λ block. stream_mux_of block ≡ stream_mux item (unsigned lengths.now)) }
         ensures range { IsOk result ↔ AreLengths lengths.now }

@@ -109,7 +109,8 @@ pub(crate) fn merge_turns<M: TakesTurns>(
     requires room { total ≤ spare_of out.old }
     ensures item_type { type_of out.new ≡ type_of out.old }
     ensures numbers { numbers_of out.new ≡ listed total (λ k.
-        round_item (M.lengths block.now) 0 (map numbers_of windows.now) (k / sum (M.lengths block.now)) (k % sum (M.lengths block.now))) }
+        round_item (M.lengths block.now) 0 (map numbers_of windows.now) (k / sum (M.lengths block.now))
+        (k % sum (M.lengths block.now))) }
     ensures room { spare_of out.old ≤ spare_of out.new + length (numbers_of out.new) }
 {
     out.push_zeros(total);

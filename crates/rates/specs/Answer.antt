@@ -43,10 +43,11 @@ pub record AreTables (net : Network) (supplies : List Supply) (links : List Link
   pub table : links ≡ links_of net
 
 -- with its ratios
-pub record HaveSolved (net : Network) (supplies : List Supply) (links : List Link) (ratios : List Fraction) : Type 0 where
-  pub tables : AreTables net supplies links
-  pub have : HaveRatios net ratios
-  pub solved : ratios_of net ≡ Some (map ratio_of ratios)
+pub record HaveSolved (net : Network) (supplies : List Supply) (links : List Link) (ratios : List Fraction) : Type 0
+  where
+    pub tables : AreTables net supplies links
+    pub have : HaveRatios net ratios
+    pub solved : ratios_of net ≡ Some (map ratio_of ratios)
 
 -- and with firings in these ratios, which make a balance
 pub record HaveFirings (net : Network) (supplies : List Supply) (links : List Link) (firings : List ℕ) : Type 0 where
@@ -73,7 +74,8 @@ pub record AreAsked (net : Network) (bal : Balance) (asked : List ℕ) : Type 0 
   pub few : All (λ x. x ≤ count_limit) asked
   pub are :
       (b p : ℕ) → b < length net.nodes → p < most_ports →
-      max (max (node_at net b).capacity (gives (node_at net b))) (slice_index asked (most_ports * b + p)) ≡ capacity_of net bal b p
+      max (max (node_at net b).capacity (gives (node_at net b))) (slice_index asked (most_ports * b + p))
+      ≡ capacity_of net bal b p
 
 -- capacities as the lists that they are
 abbrev pub sizes_of : BufferCapacities → List (List ℕ)

@@ -51,7 +51,8 @@ pub record IsOrder (net : Network) (order : List ℕ) : Type 0 where
   pub in_net : All (λ k. k < length net.connections) order
   pub all : (k : ℕ) → k < length net.connections → IsAmong order (length order) k
   pub writers :
-      (i k : ℕ) → i < length order → k < length net.connections → (connection_at net k).to ≡ (connection_at net (slice_index order i)).from → IsAmong order i k
+      (i k : ℕ) → i < length order → k < length net.connections → (connection_at net k).to
+      ≡ (connection_at net (slice_index order i)).from → IsAmong order i k
 
 -- a network's tables, with its connections in order
 pub record AreOrdered (net : Network) (supplies : List Supply) (links : List Link) (order : List ℕ) : Type 0 where
@@ -66,7 +67,8 @@ pub record CanAdvance (net : Network) (q : List ℕ) (step : ℕ) (before after 
   pub step_few : step ≤ count_limit + 1
   pub counts : (b : ℕ) → b < length net.nodes → slice_index before b ≡ count_before net q b step
   pub near : (k : ℕ) → k < length net.connections →
-      given_by (node_at net (connection_at net k).from) (count_before net q (connection_at net k).from step) ≤ count_limit * step
+      given_by (node_at net (connection_at net k).from) (count_before net q (connection_at net k).from
+      step) ≤ count_limit * step
   pub before_long : length before ≡ length net.nodes
   pub after_long : length after ≡ length net.nodes
   pub needed_long : length needed ≡ length net.connections
@@ -74,7 +76,8 @@ pub record CanAdvance (net : Network) (q : List ℕ) (step : ℕ) (before after 
 -- the step's counts, and what each connection needs up to it
 pub record HasAdvanced (net : Network) (q : List ℕ) (step : ℕ) (after old new : List ℕ) : Type 0 where
   pub counts : (b : ℕ) → b < length net.nodes → slice_index after b ≡ count_after net q b step
-  pub needed : (k : ℕ) → k < length net.connections → slice_index new k ≡ max (slice_index old k) (ahead net q (connection_at net k) step)
+  pub needed : (k : ℕ) → k < length net.connections → slice_index new k
+      ≡ max (slice_index old k) (ahead net q (connection_at net k) step)
   pub near : (k : ℕ) → k < length net.connections → ahead net q (connection_at net k) step ≤ count_limit
   pub long : length after ≡ length net.nodes
   pub needed_long : length new ≡ length net.connections
@@ -91,7 +94,8 @@ unlimited = 18446744073709551615
 
 pub record AreStarted (net : Network) (q : List ℕ) (step : ℕ) (after : List ℕ) : Type 0 where
   pub long : length after ≡ length net.nodes
-  pub sources : (b : ℕ) → b < length net.nodes → is_source (role_at net b) ≡ true → slice_index after b ≡ step * slice_index q b
+  pub sources : (b : ℕ) → b < length net.nodes → is_source (role_at net b) ≡ true → slice_index after b
+      ≡ step * slice_index q b
   pub others : (b : ℕ) → b < length net.nodes → is_source (role_at net b) ≡ false → slice_index after b ≡ unlimited
 
 pub record CanStep (net : Network) (supplies : List Supply) (q : List ℕ) (step : ℕ) (after : List ℕ) : Type 0 where
@@ -102,13 +106,15 @@ pub record CanStep (net : Network) (supplies : List Supply) (q : List ℕ) (step
   pub long : length after ≡ length net.nodes
 
 -- all that a pass over the connections starts from
-pub record CanPass (net : Network) (supplies : List Supply) (links : List Link) (order q : List ℕ) (step : ℕ) (before after needed : List ℕ) : Type 0 where
+pub record CanPass (net : Network) (supplies : List Supply) (links : List Link) (order q : List ℕ) (step : ℕ)
+    (before after needed : List ℕ) : Type 0 where
   pub tables : AreOrdered net supplies links order
   pub counts : CanAdvance net q step before after needed
   pub started : AreStarted net q step after
 
 -- the counts of a block without a step yet, and what connections need without one: all 0
-pub record CanRun (net : Network) (supplies : List Supply) (links : List Link) (order q before after needed : List ℕ) : Type 0 where
+pub record CanRun (net : Network) (supplies : List Supply) (links : List Link) (order q before after needed : List ℕ) :
+    Type 0 where
   pub tables : AreOrdered net supplies links order
   pub balanced : IsBalanced net q
   pub few : All (λ n. n ≤ count_limit) q
@@ -128,21 +134,26 @@ pub record AreNeeded (net : Network) (q needed : List ℕ) : Type 0 where
   pub fits : fits_limit net q (past_skips net q) ≡ true
   pub long : length needed ≡ length net.connections
   pub few : (k : ℕ) → k < length net.connections → slice_index needed k ≤ count_limit
-  pub each : (k : ℕ) → k < length net.connections → slice_index needed k ≡ needed_by net q (past_skips net q) (connection_at net k)
+  pub each : (k : ℕ) → k < length net.connections → slice_index needed k
+      ≡ needed_by net q (past_skips net q) (connection_at net k)
 
 -- connections that are in order already, and those of them that are marked
 pub record IsPlaced (net : Network) (placed : List Bool) (order : List ℕ) : Type 0 where
   pub marks : length placed ≡ length net.connections
-  pub among : (k : ℕ) → k < length net.connections → slice_index_or placed k false ≡ true → IsAmong order (length order) k
+  pub among : (k : ℕ) → k < length net.connections → slice_index_or placed k false ≡ true
+      → IsAmong order (length order) k
   pub in_net : All (λ k. k < length net.connections) order
   pub writers :
-      (i k : ℕ) → i < length order → k < length net.connections → (connection_at net k).to ≡ (connection_at net (slice_index order i)).from → IsAmong order i k
+      (i k : ℕ) → i < length order → k < length net.connections → (connection_at net k).to
+      ≡ (connection_at net (slice_index order i)).from → IsAmong order i k
 
 -- the blocks to which all connections are placed
 pub record AreReady (net : Network) (placed ready : List Bool) : Type 0 where
   pub long : length ready ≡ length net.nodes
-  pub full : (b k : ℕ) → slice_index_or ready b false ≡ true → k < length net.connections → (connection_at net k).to ≡ b → slice_index_or placed k false ≡ true
-  pub all : (b : ℕ) → b < length net.nodes → ((k : ℕ) → k < length net.connections → (connection_at net k).to ≡ b → slice_index_or placed k false ≡ true) → slice_index_or ready b false ≡ true
+  pub full : (b k : ℕ) → slice_index_or ready b false ≡ true → k < length net.connections → (connection_at net k).to ≡ b
+      → slice_index_or placed k false ≡ true
+  pub all : (b : ℕ) → b < length net.nodes → ((k : ℕ) → k < length net.connections → (connection_at net k).to ≡ b
+      → slice_index_or placed k false ≡ true) → slice_index_or ready b false ≡ true
 
 pub record CanMark (net : Network) (links : List Link) (placed ready : List Bool) : Type 0 where
   pub rates : HasRates net
@@ -160,7 +171,8 @@ pub record CanPlace (net : Network) (links : List Link) (ready placed : List Boo
 pub record HasPlaced (net : Network) (ready old new : List Bool) (order : List ℕ) : Type 0 where
   pub placing : IsPlaced net new order
   pub kept : (k : ℕ) → slice_index_or old k false ≡ true → slice_index_or new k false ≡ true
-  pub more : (k : ℕ) → k < length net.connections → slice_index_or ready (connection_at net k).from false ≡ true → slice_index_or new k false ≡ true
+  pub more : (k : ℕ) → k < length net.connections → slice_index_or ready (connection_at net k).from false ≡ true
+      → slice_index_or new k false ≡ true
 
 -- nothing is placed yet
 pub record CanOrder (net : Network) (links : List Link) (placed ready : List Bool) (order : List ℕ) : Type 0 where

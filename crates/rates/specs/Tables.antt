@@ -104,11 +104,12 @@ pub record AreWholes (net : Network) (ratios : List Fraction) (wholes : List ℕ
   pub each : (p : ℕ) → p < length net.nodes → slice_index wholes p ≡ whole_of (map ratio_of ratios) p
   pub few : (p : ℕ) → p < length net.nodes → slice_index wholes p ≤ 2 ^ 33
 
-pub record CanFire (net : Network) (supplies : List Supply) (ratios : List Fraction) (wholes firings : List ℕ) : Type 0 where
-  pub table : supplies ≡ supplies_of net
-  pub have : HaveRatios net ratios
-  pub parts : AreWholes net ratios wholes
-  pub room : length firings ≡ length net.nodes
+pub record CanFire (net : Network) (supplies : List Supply) (ratios : List Fraction) (wholes firings : List ℕ) : Type 0
+  where
+    pub table : supplies ≡ supplies_of net
+    pub have : HaveRatios net ratios
+    pub parts : AreWholes net ratios wholes
+    pub room : length firings ≡ length net.nodes
 
 -- the least whole numbers in these ratios, none of which is too large
 pub record AreFirings (net : Network) (ratios : List Fraction) (firings : List ℕ) : Type 0 where
@@ -125,12 +126,14 @@ pub record CanTotal (net : Network) (supplies : List Supply) (ratios : List Frac
   pub table : supplies ≡ supplies_of net
   pub have : HaveRatios net ratios
 
-pub record CanFill (net : Network) (supplies : List Supply) (ratios : List Fraction) (wholes firings : List ℕ) : Type 0 where
-  pub table : supplies ≡ supplies_of net
-  pub have : HaveRatios net ratios
-  pub ones : wholes ≡ replicate (length ratios) 1
-  pub room : length firings ≡ length net.nodes
+pub record CanFill (net : Network) (supplies : List Supply) (ratios : List Fraction) (wholes firings : List ℕ) : Type 0
+  where
+    pub table : supplies ≡ supplies_of net
+    pub have : HaveRatios net ratios
+    pub ones : wholes ≡ replicate (length ratios) 1
+    pub room : length firings ≡ length net.nodes
 
 -- the firings, or nothing where they are too many
 abbrev pub AreFound : Network → List Fraction → Option (Vec ℕ Global) → Type 0
-AreFound net ratios found = MatchOption found (are_few net (firings_of (map ratio_of ratios)) ≡ false) (λ v. AreFirings net ratios v.items)
+AreFound net ratios found = MatchOption found (are_few net (firings_of (map ratio_of ratios)) ≡ false)
+    (λ v. AreFirings net ratios v.items)

@@ -29,7 +29,8 @@ fn is_past(shift: Shift, firings: u64) -> bool
 fn are_past(supplies: &[Supply], counts: &[u64]) -> bool
     ghost net: { Network }
     requires { AreCounted net supplies.now counts.now }
-    ensures { result ≡ list_all (λ b. is_past_skip (node_at net b).meaning.shift (slice_index counts.now b)) (below (length net.nodes)) }
+    ensures { result ≡ list_all (λ b. is_past_skip (node_at net b).meaning.shift (slice_index counts.now b))
+        (below (length net.nodes)) }
 {
     for (block, supply) in supplies.iter().enumerate() {
         if !is_past(supply.shift, counts[block]) {

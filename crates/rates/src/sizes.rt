@@ -82,7 +82,9 @@ fn row<B: Block>(
     requires there { block.0 < length graph.now.blocks }
     requires rates { HasRates (net_of B.meaning graph.now) }
     requires asked { AreAsked (net_of B.meaning graph.now) (balance_of (net_of B.meaning graph.now)) asked.now }
-    ensures { IfOk result (λ row. row.items ≡ map (capacity_of (net_of B.meaning graph.now) (balance_of (net_of B.meaning graph.now)) block.0) (below (used_outputs (net_of B.meaning graph.now) block.0))) }
+    ensures { IfOk result (λ row. row.items ≡ map (capacity_of (net_of B.meaning graph.now)
+        (balance_of (net_of B.meaning graph.now)) block.0) (below (used_outputs (net_of B.meaning graph.now)
+        block.0))) }
 {
     let own = u64::from(graph.options(block).capacity).max(gives(graph, block));
     let outputs = graph.outputs(block);

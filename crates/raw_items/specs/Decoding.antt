@@ -11,7 +11,8 @@ pub record Decoding : Type 0 where
   pub order : ByteOrder
   pub cut : List ℕ
 
--- the decoder has made the items of all these bytes, which stand behind those that were there at the start, and holds the bytes behind the last of them
+-- the decoder has made the items of all these bytes, which stand behind those that were there at the start, and holds
+-- the bytes behind the last of them
 pub record HasDecoded (decoder : Decoding) (bytes : List ℕ) (start out : List ℤ) : Type 0 where
   pub items : out ≡ start ++ items_of decoder.item_type decoder.order bytes
   pub cut : decoder.cut ≡ cut_of decoder.item_type bytes

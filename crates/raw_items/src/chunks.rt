@@ -46,9 +46,11 @@ pub(crate) fn push_number_bytes<const N: usize, T: RawNumber<N>>(
     numbers: &[T],
     order: ByteOrder,
 ) -> Result<(), AllocError>
-    ensures bytes { OnOk result (out.new.items ≡ out.old.items ++ all_bytes_of T.kind order (map T.number numbers.now)) }
+    ensures bytes { OnOk result (out.new.items ≡ out.old.items ++ all_bytes_of T.kind order
+        (map T.number numbers.now)) }
     ensures len { OnOk result (vec_len out.new ≡ vec_len out.old + length numbers.now * size_of T.kind) }
-    ensures round_trip { OnOk result (items_of T.kind order (all_bytes_of T.kind order (map T.number numbers.now)) ≡ map T.number numbers.now) }
+    ensures round_trip { OnOk result (items_of T.kind order (all_bytes_of T.kind order (map T.number numbers.now))
+        ≡ map T.number numbers.now) }
     ensures err { OnErr result (out.new.items ≡ out.old.items) }
     ensures capacity { vec_capacity out.old ≤ vec_capacity out.new }
     ensures succeeds { vec_len out.old + length numbers.now * size_of T.kind ≤ vec_capacity out.old → IsOk result }

@@ -15,8 +15,8 @@ use std::marker::Model;
 /// How many bytes an item has at most.
 const MOST: usize = 4;
 
-/// Makes items of bytes that come in pieces of any length. A contract sees the type of the items, the order of their bytes, and the bytes of an item
-/// whose end has not come.
+/// Makes items of bytes that come in pieces of any length. A contract sees the type of the items, the order of their
+/// bytes, and the bytes of an item whose end has not come.
 #[derive(Debug, Drop)]
 pub struct Decoder {
     item_type: ItemType,
@@ -53,8 +53,8 @@ impl Decoder {
         }
     }
 
-    /// Appends the items that the bytes held and those of the next piece are, and holds the bytes behind the last whole item. It fails only where there
-    /// is no room for the items and the allocator refuses.
+    /// Appends the items that the bytes held and those of the next piece are, and holds the bytes behind the last whole
+    /// item. It fails only where there is no room for the items and the allocator refuses.
     pub fn push(&mut self, piece: &[u8], out: &mut Items) -> Result<(), AllocError>
         requires same_type { type_of out.old ≡ self.old.item_type }
         ensures layout { self.new ≡ record self.old { cut = self.new.cut } }
@@ -62,17 +62,21 @@ impl Decoder {
         ensures items { OnOk result (numbers_of out.new ≡ numbers_of out.old
             ++ items_of self.old.item_type self.old.order (self.old.cut ++ piece.now)) }
         ensures cut { OnOk result (self.new.cut ≡ cut_of self.old.item_type (self.old.cut ++ piece.now)) }
-        ensures spare { OnOk result (spare_of out.old ≤ spare_of out.new + count_of self.old.item_type (self.old.cut ++ piece.now)) }
-        ensures err { OnErr result ((self.new ≡ self.old) × (numbers_of out.new ≡ numbers_of out.old) × (spare_of out.new ≡ spare_of out.old)) }
+        ensures spare { OnOk result (spare_of out.old ≤ spare_of out.new + count_of self.old.item_type
+            (self.old.cut ++ piece.now)) }
+        ensures err { OnErr result ((self.new ≡ self.old) × (numbers_of out.new ≡ numbers_of out.old)
+            × (spare_of out.new ≡ spare_of out.old)) }
         ensures succeeds { count_of self.old.item_type (self.old.cut ++ piece.now) ≤ spare_of out.old → IsOk result }
 
         // Bytes that come in pieces are what they are at once.
-        ensures pieces { OnOk result ((bytes : List ℕ) (start : List ℤ) → HasDecoded self.old bytes start (numbers_of out.old)
+        ensures pieces { OnOk result ((bytes : List ℕ) (start : List ℤ)
+            → HasDecoded self.old bytes start (numbers_of out.old)
             → HasDecoded self.new (bytes ++ piece.now) start (numbers_of out.new)) }
 
         // The items and the bytes that are held give the bytes back.
         ensures round_trip { OnOk result (all_bytes_of self.old.item_type self.old.order
-            (items_of self.old.item_type self.old.order (self.old.cut ++ piece.now)) ++ self.new.cut ≡ self.old.cut ++ piece.now) }
+            (items_of self.old.item_type self.old.order (self.old.cut ++ piece.now)) ++ self.new.cut ≡ self.old.cut
+            ++ piece.now) }
     {
         let size = item_size(self.item_type);
         out.reserve((self.cut_len + piece.len()) / size)?;

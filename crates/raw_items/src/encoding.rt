@@ -10,7 +10,8 @@ use items::Items;
 use numbers::vectors::are_in_range;
 use std::alloc::AllocError;
 
-/// Appends the bytes of the items from place `from` to below place `to`. It fails only where there is no room for them and the allocator refuses.
+/// Appends the bytes of the items from place `from` to below place `to`. It fails only where there is no room for them
+/// and the allocator refuses.
 #[tactic(auto, using(crate::proofs::Steps::map_slice_range))]
 pub fn push_item_bytes(
     out: &mut Vec<u8>,
@@ -26,11 +27,13 @@ pub fn push_item_bytes(
     ensures len { OnOk result (vec_len out.new ≡ vec_len out.old + (to - from) * size_of (type_of items.now)) }
     ensures err { OnErr result (out.new.items ≡ out.old.items) }
     ensures capacity { vec_capacity out.old ≤ vec_capacity out.new }
-    ensures succeeds { vec_len out.old + (to - from) * size_of (type_of items.now) ≤ vec_capacity out.old → IsOk result }
+    ensures succeeds { vec_len out.old + (to - from) * size_of (type_of items.now) ≤ vec_capacity out.old
+        → IsOk result }
 
     // The bytes give the items back.
     ensures round_trip { OnOk result (items_of (type_of items.now) order
-        (all_bytes_of (type_of items.now) order (slice_range (numbers_of items.now) from to)) ≡ slice_range (numbers_of items.now) from to) }
+        (all_bytes_of (type_of items.now) order (slice_range (numbers_of items.now) from to))
+        ≡ slice_range (numbers_of items.now) from to) }
 {
     match items {
         Items::Byte(numbers) => {

@@ -10,7 +10,8 @@ use Rattle.settings.specs.declared.value.Value.{Value}
 use Rattle.settings.specs.Values.{placed}
 use Rattle.settings.specs.Timelines.{kept_from}
 
--- the type of the items, all items, the first that is kept, how many more fit before memory is needed, and how many fit into memory at all
+-- the type of the items, all items, the first that is kept, how many more fit before memory is needed, and how many fit
+-- into memory at all
 pub record ItemsState : Type 0 where
   pub item : ItemType
   pub items : List ℤ
@@ -32,7 +33,8 @@ forgotten_items pieces = flat_map (λ p. take p.1 (numbers_of p.0)) pieces
 abbrev pub forgotten_tags : List (TagList × ℕ) → List Tag
 forgotten_tags pieces = flat_map (λ p. tags_within 0 p.1 p.0.tags) pieces
 
--- `before` items are out of memory, and the first `gone` of those in memory are forgotten too, but are no more than those that are kept
+-- `before` items are out of memory, and the first `gone` of those in memory are forgotten too, but are no more than
+-- those that are kept
 pub record AreRecent (forgotten : List (Items × ℕ)) (before gone : ℕ) (items : List ℤ) : Type 0 where
   pub before_is : length (forgotten_items forgotten) ≡ before
   pub few : 2 * gone ≤ length items
@@ -61,11 +63,12 @@ pub record SettingsState : Type 0 where
 abbrev pub settings_made : List (Value × ℕ) → List model.Held
 settings_made calls = fold (λ hs call. model.put_setting (placed (call.1, call.0)) hs) [] calls
 
--- of these settings those are in memory that were made at an item or later, and so is that in force at item from, if it is no more the block's own;
--- of those made before item from there is at most one
-pub record ArePastSettings (own : model.Value) (made : List model.Held) (from : ℕ) (kept : List model.Held) : Type 0 where
-  pub first : ℕ
-  pub reads : first ≤ (model.setting_at own made from).at
-  pub rising : model.IsRising made
-  pub kept_is : kept ≡ kept_from first made
-  pub few : length kept ≤ 1 + length (kept_from from made)
+-- of these settings those are in memory that were made at an item or later, and so is that in force at item from, if it
+-- is no more the block's own; of those made before item from there is at most one
+pub record ArePastSettings (own : model.Value) (made : List model.Held) (from : ℕ) (kept : List model.Held) : Type 0
+  where
+    pub first : ℕ
+    pub reads : first ≤ (model.setting_at own made from).at
+    pub rising : model.IsRising made
+    pub kept_is : kept ≡ kept_from first made
+    pub few : length kept ≤ 1 + length (kept_from from made)

@@ -3,8 +3,8 @@ use Rattle.std.specs.Prelude.{ℕ, ℤ, List}
 use Rattle.stream_model.specs.declared.vocabulary.ItemType.{ItemType}
 use Rattle.stream_model.specs.Tags.{Tag}
 
--- the type of the items, all items, all tags in order, the first item that is kept, how many more of each fit before memory is needed, and how many items
--- fit into memory at all
+-- the type of the items, all items, all tags in order, the first item that is kept, how many more of each fit before
+-- memory is needed, and how many items fit into memory at all
 pub record RecordingState : Type 0 where
   pub item : ItemType
   pub items : List ℤ

@@ -1,4 +1,5 @@
-//! A history that only clauses see: pieces, one after another. It takes no memory, and its calls do nothing when they run.
+//! A history that only clauses see: pieces, one after another. It takes no memory, and its calls do nothing when they
+//! run.
 
 ghost use Rattle.std.specs.Prelude.{◌≡◌, List, [], ◌∷◌, ◌++◌};
 ghost use Rattle.std.specs.Borrow.{ftrue};

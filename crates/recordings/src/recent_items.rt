@@ -12,7 +12,8 @@ use std::marker::Model;
 // No list has more items than so.
 const MOST: u64 = 1 << 62;
 
-/// A list of items, of which the first may be forgotten. A contract sees all of them, and which is the first that is kept.
+/// A list of items, of which the first may be forgotten. A contract sees all of them, and which is the first that is
+/// kept.
 #[derive(Drop)]
 pub struct RecentItems {
     // The items that are out of memory: of each of these so many, from the front.
@@ -20,8 +21,8 @@ pub struct RecentItems {
     // How many these are.
     before: u64,
     items: Items,
-    // How many items at the front of these are forgotten. They wait until they are more than those that are kept: forgetting then costs as
-    // many steps as items go, whatever stays.
+    // How many items at the front of these are forgotten. They wait until they are more than those that are kept:
+    // forgetting then costs as many steps as items go, whatever stays.
     gone: usize,
 }
 
@@ -103,8 +104,8 @@ impl RecentItems {
         self.items.len()
     }
 
-    /// Makes room for `n` more items. Where they do not fit, memory grows by as many items as it has, or by `n` if that is more. It fails only where the
-    /// allocator refuses, or where there would be more than 2^62 items.
+    /// Makes room for `n` more items. Where they do not fit, memory grows by as many items as it has, or by `n` if that
+    /// is more. It fails only where the allocator refuses, or where there would be more than 2^62 items.
     pub fn reserve(&mut self, n: usize) -> Result<(), AllocError>
         ensures item { self.new.item ≡ self.old.item }
         ensures items { self.new.items ≡ self.old.items }
@@ -160,7 +161,8 @@ impl RecentItems {
         }
     }
 
-    /// The items before `to` are forgotten. It takes no memory, and moving those that are kept is amortized over those that are forgotten.
+    /// The items before `to` are forgotten. It takes no memory, and moving those that are kept is amortized over those
+    /// that are forgotten.
     pub fn forget(&mut self, to: u64)
         requires kept { self.old.from ≤ to }
         requires within { to ≤ length self.old.items }

@@ -12,8 +12,8 @@ use std::alloc::{AllocError, Global};
 use std::fmt;
 use std::marker::Model;
 
-/// The settings of a block, of which those may be forgotten that no item reads from one on. A contract sees all of them, and which is the first item
-/// at which they may still be read.
+/// The settings of a block, of which those may be forgotten that no item reads from one on. A contract sees all of
+/// them, and which is the first item at which they may still be read.
 #[derive(Drop)]
 pub struct RecentSettings {
     // Each setting with its item, in the order of the calls.
@@ -56,18 +56,21 @@ impl RecentSettings {
         }
     }
 
-    /// How many settings are in memory: all that may still be read, and of those made before the first item that may read them at most one. It was in
-    /// force at that item as others were forgotten, and stays until `forget`, even where that very item is set then.
+    /// How many settings are in memory: all that may still be read, and of those made before the first item that may
+    /// read them at most one. It was in force at that item as others were forgotten, and stays until `forget`, even
+    /// where that very item is set then.
     pub fn in_memory(&self) -> usize
-        ensures read { length (kept_from (model.setting_at self.now.own self.now.settings self.now.from).at self.now.settings) ≤ result }
+        ensures read { length (kept_from (model.setting_at self.now.own self.now.settings self.now.from).at
+            self.now.settings) ≤ result }
         ensures past { result ≤ 1 + length (kept_from self.now.from self.now.settings) }
         ensures made { result ≤ length self.now.settings }
     {
         self.timeline.len()
     }
 
-    /// Makes `held` what is in force from item `from` on to below item `to`: the setting in force at `from`, then those made after it. It takes no
-    /// memory where `held` has enough, and fails only where the allocator refuses; what `held` then has is unspecified.
+    /// Makes `held` what is in force from item `from` on to below item `to`: the setting in force at `from`, then those
+    /// made after it. It takes no memory where `held` has enough, and fails only where the allocator refuses; what
+    /// `held` then has is unspecified.
     pub fn copy_between(
         &self,
         alloc: Global,
@@ -93,7 +96,8 @@ impl RecentSettings {
         self.timeline.is_between(from, to, held)
     }
 
-    /// A copy of all settings by their items, of which none may be forgotten. It fails only where the allocator refuses.
+    /// A copy of all settings by their items, of which none may be forgotten. It fails only where the allocator
+    /// refuses.
     pub fn copy(&self, alloc: Global) -> Result<Vec<Held>, AllocError>
         requires { self.now.from ≡ 0 }
         ensures { IfOk result (λ copy. map held_of copy.items ≡ self.now.settings) }
@@ -109,8 +113,8 @@ impl RecentSettings {
         self.timeline.is_same_as(held)
     }
 
-    /// Sets the value from item `at` on. An `Err` changes nothing, and comes only where the allocator refuses memory for a setting of an item that has
-    /// none yet.
+    /// Sets the value from item `at` on. An `Err` changes nothing, and comes only where the allocator refuses memory
+    /// for a setting of an item that has none yet.
     pub fn set(&mut self, at: u64, value: Value) -> Result<(), AllocError>
         requires { self.old.from ≤ at }
         ensures own { self.new.own ≡ self.old.own }

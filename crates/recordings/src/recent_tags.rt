@@ -12,8 +12,8 @@ use std::fmt;
 use std::marker::Model;
 use tags::{Tag, Tags};
 
-/// The tags of a stream in their order, of which those on the first items may be forgotten. A contract sees all of them, and which is the first item
-/// whose tags are kept.
+/// The tags of a stream in their order, of which those on the first items may be forgotten. A contract sees all of
+/// them, and which is the first item whose tags are kept.
 #[derive(Drop)]
 pub struct RecentTags {
     // The tags that are out of memory: of each of these those on items below one.
@@ -75,7 +75,8 @@ impl RecentTags {
         self.tags.reserve(n)
     }
 
-    /// Takes in tags, each at its place. Those on items whose tags are not kept are forgotten at once. It takes no memory.
+    /// Takes in tags, each at its place. Those on items whose tags are not kept are forgotten at once. It takes no
+    /// memory.
     pub fn insert_all(&mut self, more: &[Tag])
         requires { length more.now ≤ self.old.spare }
         ensures tags { self.new.tags ≡ insert_tags (map tag_of more.now) self.old.tags }
@@ -123,7 +124,8 @@ impl RecentTags {
 
 // Takes the tags on items before `to` out of memory. It looks at one tag where there is none.
 fn take_out(forgotten: &mut Past<Tags, u64>, tags: &mut Tags, to: u64)
-    ensures same { insert_tags (forgotten_tags forgotten.new.pieces) tags.new.tags ≡ insert_tags (forgotten_tags forgotten.old.pieces) tags.old.tags }
+    ensures same { insert_tags (forgotten_tags forgotten.new.pieces) tags.new.tags
+        ≡ insert_tags (forgotten_tags forgotten.old.pieces) tags.old.tags }
     ensures before { (from : ℕ) → from ≤ to → LieBefore from forgotten.old.pieces → LieBefore to forgotten.new.pieces }
     ensures behind { LieFrom to tags.new.tags }
     ensures spare { tags.old.spare ≤ tags.new.spare }

@@ -99,7 +99,8 @@ impl Recording {
         self.tags.in_memory()
     }
 
-    /// Makes room for so many more items and tags. It fails only where the allocator refuses, or where there would be more than 2^62 items.
+    /// Makes room for so many more items and tags. It fails only where the allocator refuses, or where there would be
+    /// more than 2^62 items.
     pub fn reserve(&mut self, items: usize, tags: usize) -> Result<(), AllocError>
         ensures item { self.new.item ≡ self.old.item }
         ensures items { self.new.items ≡ self.old.items }
@@ -107,7 +108,8 @@ impl Recording {
         ensures from { self.new.from ≡ self.old.from }
         ensures ok { OnOk result ((items ≤ self.new.spare_items) × (tags ≤ self.new.spare_tags)) }
         ensures spare { (self.old.spare_items ≤ self.new.spare_items) × (self.old.spare_tags ≤ self.new.spare_tags) }
-        ensures capacity { self.new.capacity ≤ max self.old.capacity (4 * (length self.old.items - self.old.from) + items) }
+        ensures capacity { self.new.capacity ≤ max self.old.capacity (4 * (length
+            self.old.items - self.old.from) + items) }
         ensures succeeds { items ≤ self.old.spare_items → tags ≤ self.old.spare_tags → IsOk result }
     {
         self.items.reserve(items)?;
@@ -158,8 +160,8 @@ impl Recording {
         self.tags.range(from, to)
     }
 
-    /// The items before `to` and the tags on them are forgotten. It takes no memory, and moving those that are kept is amortized over those that
-    /// are forgotten.
+    /// The items before `to` and the tags on them are forgotten. It takes no memory, and moving those that are kept is
+    /// amortized over those that are forgotten.
     pub fn forget(&mut self, to: u64)
         requires kept { self.old.from ≤ to }
         requires within { to ≤ length self.old.items }
@@ -173,7 +175,8 @@ impl Recording {
         self.tags.forget(to);
     }
 
-    /// The same items and tags in memory of their own; what is forgotten stays so. It fails only where the allocator refuses.
+    /// The same items and tags in memory of their own; what is forgotten stays so. It fails only where the allocator
+    /// refuses.
     pub fn copy(&self, alloc: Global) -> Result<Recording, AllocError>
         ensures item { IfOk result (λ copy. copy.item ≡ self.now.item) }
         ensures items { IfOk result (λ copy. copy.items ≡ self.now.items) }

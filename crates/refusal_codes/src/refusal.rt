@@ -5,7 +5,8 @@ ghost use Rattle.std.specs.Prelude.{◌≡◌, ℕ, List};
 pub trait Refusal {
     ghost row: { Self → ℕ × List ℕ };
 
-    /// The number by which the refusal is reported, and the name beside it. A match of a type's refusals is the table of them.
+    /// The number by which the refusal is reported, and the name beside it. A match of a type's refusals is the table
+    /// of them.
     fn row(&self) -> (u32, &'static str)
         ensures { (result.0, result.1.now) ≡ row self.now };
 

@@ -4,8 +4,8 @@ use Rattle.std.specs.Option.{option_map_or}
 use Rattle.circular_buffer.specs.Buffer.{keep_last}
 use Rattle.ring_readers.specs.declared.reader.ReaderState.{ReaderState}
 
--- a buffer with places for its readers: how many items have been written, the last of them, which are kept, how many unread items
--- a reader may have, the greatest history that a reader may have, and the readers
+-- a buffer with places for its readers: how many items have been written, the last of them, which are kept, how many
+-- unread items a reader may have, the greatest history that a reader may have, and the readers
 pub record RingState : Type 0 where
   pub written : ℕ
   pub kept : List ℤ
@@ -91,7 +91,13 @@ empty_ring capacity greatest = ring_state 0 [] capacity greatest []
 
 -- the ring with one more reader, before the first item
 abbrev pub with_reader : RingState → ℕ → RingState
-with_reader ring history = record ring { readers = ring.readers ++ record { place = 0; history = history; live = true } ∷ [] }
+with_reader ring history = record ring {
+  readers = ring.readers ++ record {
+    place = 0;
+    history = history;
+    live = true;
+  } ∷ [];
+}
 
 -- the ring after these items
 abbrev pub with_items : RingState → List ℤ → RingState
@@ -108,4 +114,7 @@ with_taken ring n count =
 
 -- the ring that no longer waits for reader n
 abbrev pub without_reader : RingState → ℕ → RingState
-without_reader ring n = let p = reader_at ring n in record ring { readers = slice_set ring.readers n (record p { live = false }) }
+without_reader ring n = let p = reader_at ring n in record ring {
+  readers = slice_set ring.readers n
+      (record p { live = false });
+}

@@ -8,7 +8,8 @@ use Rattle.script_text.specs.Lines.{begins_with, longest_line, most_lines}
 use Rattle.script_text.specs.Numbers.{offset_of, max_of, integer_of}
 use Rattle.script_text.specs.Fields.{fields_of, cut_at}
 
--- a command, with the name of the block that it is for; the last two are for all blocks. A setting holds from an item on; where none is given, from the first that is open
+-- a command, with the name of the block that it is for; the last two are for all blocks. A setting holds from an item
+-- on; where none is given, from the first that is open
 pub data Command : Type 0 where
   Feed : (name : List ℕ) → (items : List ℤ) → (marks : List Mark) → Command
   Close : (name : List ℕ) → Command

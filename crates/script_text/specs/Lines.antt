@@ -1,6 +1,6 @@
--- The lines of a list of bytes. A line ends with a line feed, with a carriage return right before one, or with the bytes
--- themselves. Nothing after the last line feed is no line, and a carriage return that only the end of the bytes follows
--- is part of its line.
+-- The lines of a list of bytes. A line ends with a line feed, with a carriage return right before one, or with the
+-- bytes themselves. Nothing after the last line feed is no line, and a carriage return that only the end of the bytes
+-- follows is part of its line.
 use Rattle.std.specs.Prelude.{ℕ, List, [], ◌∷◌, Bool, false, ◌&&◌, ◌==◌, if◌then◌else◌}
 
 abbrev pub line_feed : ℕ

@@ -16,7 +16,8 @@ abbrev pub mark_before : Option (List ℕ × List ℕ) → List ℕ → Option M
 mark_before None line = mark_of line
 mark_before (Some cut) line = source_of cut.1 >>= (λ source. mark_of cut.0)
 
--- the mark that a line says, which may not be too long: behind it the source of a tag may stand, as where tags are written, which is passed over
+-- the mark that a line says, which may not be too long: behind it the source of a tag may stand, as where tags are
+-- written, which is passed over
 abbrev pub line_mark : List ℕ → Option Mark
 line_mark line = if nat_lt longest_line (length line) then None else mark_before (cut_at slash line) line
 

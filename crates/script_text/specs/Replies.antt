@@ -1,5 +1,5 @@
--- The text of replies, without the line feed at its end. Its fields have one space between them, and its numbers no zeros in
--- front and no plus sign.
+-- The text of replies, without the line feed at its end. Its fields have one space between them, and its numbers no
+-- zeros in front and no plus sign.
 use Rattle.std.specs.Prelude.{ℕ, ℤ, List, [], ◌∷◌, ◌++◌, codes, Bool, true, false}
 use Rattle.std.specs.List.{flat_map}
 use Rattle.std.specs.Fmt.{decimal, signed_decimal}

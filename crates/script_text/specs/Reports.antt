@@ -1,5 +1,5 @@
--- The text of the report on a graph that was checked, and of a run at its end, without the line feed at the end of each line. The
--- fields and numbers are written as those of replies.
+-- The text of the report on a graph that was checked, and of a run at its end, without the line feed at the end of each
+-- line. The fields and numbers are written as those of replies.
 use Rattle.std.specs.Prelude.{ℕ, ℤ, List, ◌∷◌, ◌++◌, codes}
 use Rattle.std.specs.Fmt.{decimal}
 use Rattle.stream_model.specs.Tags.{Tag}

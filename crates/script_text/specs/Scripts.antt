@@ -8,7 +8,8 @@ use Rattle.script_text.specs.Grammar.{Parsed, Nothing, Bad, Says, SaysList, pars
 abbrev pub said_of : Split → List ℕ → List Parsed
 said_of s more = parsed_from (suc s.taken) (lines_of (s.rest ++ more))
 
--- the next line says this, and the lines behind it are those that are left; it was counted, and there are not too many yet
+-- the next line says this, and the lines behind it are those that are left; it was counted, and there are not too many
+-- yet
 pub record GoesOn (said : Parsed) (old new : Split) : Type 0 where
   pub says : (more : List ℕ) → said_of old more ≡ said ∷ said_of new more
   pub counted : new.taken ≤ most_lines
@@ -27,4 +28,5 @@ Continues None old new = IsUnfinished new.rest × KeepsBytes old new
 
 -- the next line says a command with numbers or marks, whatever comes behind it
 abbrev pub StopsAtList : Split → Type 0
-StopsAtList old = (said : Parsed) × SaysList said × ((more : List ℕ) → (later : List Parsed) × (said_of old more ≡ said ∷ later))
+StopsAtList old = (said : Parsed) × SaysList said × ((more : List ℕ) → (later : List Parsed)
+    × (said_of old more ≡ said ∷ later))

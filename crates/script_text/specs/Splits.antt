@@ -16,7 +16,8 @@ most_held = 196608
 
 -- the first line of the bytes is longer than a line may be
 abbrev pub StartsTooLong : List ℕ → Type 0
-StartsTooLong bytes = (line : List ℕ) × (lines : List (List ℕ)) × (lines_of bytes ≡ line ∷ lines) × (longest_line < length line)
+StartsTooLong bytes = (line : List ℕ) × (lines : List (List ℕ)) × (lines_of bytes ≡ line ∷ lines)
+    × (longest_line < length line)
 
 -- less than a line whose end is known: no line feed, and not too long yet
 pub record IsUnfinished (bytes : List ℕ) : Type 0 where

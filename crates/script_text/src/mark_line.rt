@@ -11,7 +11,8 @@ use items::Mark;
 
 const SLASH: u8 = b'/';
 
-/// The mark that a line says, as it stands in a line of a script or where tags are written, with the source of the tag behind it, which is passed over.
+/// The mark that a line says, as it stands in a line of a script or where tags are written, with the source of the tag
+/// behind it, which is passed over.
 pub fn parse_mark_line(line: &[u8]) -> Option<Mark>
     ensures { option_map mark_seen result ≡ line_mark line.now }
 {

@@ -50,7 +50,8 @@ pub fn push_held(
     items: &Items,
     tags: &[Tag],
 ) -> Result<(), AllocError>
-    ensures { OnOk result (out.new.items ≡ out.old.items ++ held_text held (numbers_of items.now) (tags_seen tags.now)) }
+    ensures { OnOk result (out.new.items ≡ out.old.items ++ held_text held (numbers_of items.now)
+        (tags_seen tags.now)) }
 {
     push_natural(out, held)?;
     push_items(out, items)?;
@@ -97,7 +98,8 @@ fn push_tag(out: &mut Vec<u8>, tag: &Tag) -> Result<(), AllocError>
     push_tag_value(out, tag)
 }
 
-/// Writes a line for each tag at the end: `@`, its offset, a colon, its key, `=`, its value, `/` and its source. It fails only where the allocator refuses.
+/// Writes a line for each tag at the end: `@`, its offset, a colon, its key, `=`, its value, `/` and its source. It
+/// fails only where the allocator refuses.
 pub fn push_tag_lines(out: &mut Vec<u8>, tags: &[Tag]) -> Result<(), AllocError>
     ensures { OnOk result (out.new.items ≡ out.old.items ++ flat_map tag_line (tags_seen tags.now)) }
 {

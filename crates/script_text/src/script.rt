@@ -12,8 +12,9 @@ use std::alloc::{AllocError, Global};
 
 const MOST_LINES: u64 = 4294967295;
 
-/// Takes the next line, where its end has come, and returns what it says. A line that is too long is reported and stays. An `Err`
-/// has taken it too, which is a command with numbers or marks; what says a line to be bad needs no memory.
+/// Takes the next line, where its end has come, and returns what it says. A line that is too long is reported and
+/// stays. An `Err` has taken it too, which is a command with numbers or marks; what says a line to be bad needs no
+/// memory.
 pub fn next_line(alloc: Global, lines: &mut LineSplitter) -> Result<Option<Line>, AllocError>
     requires { lines.old.taken < 2 ^ 64 - 1 }
     ensures ok { IfOk result (λ line. Continues (option_map line_seen line) lines.old lines.new) }
@@ -41,7 +42,8 @@ pub fn last_line(alloc: Global, lines: &LineSplitter) -> Result<Option<Line>, Al
     ensures says { IfOk result (λ line.
         option_to_list (option_map line_seen line) ≡ parsed_from (suc lines.now.taken) (lines_of lines.now.rest)) }
     ensures askable { IfOk result (λ line. IfSome line (λ l. SaysAskable (line_seen l))) }
-    ensures list { OnErr result ((said : Parsed) × SaysList said × (said ∷ [] ≡ parsed_from (suc lines.now.taken) (lines_of lines.now.rest))) }
+    ensures list { OnErr result ((said : Parsed) × SaysList said × (said ∷ []
+        ≡ parsed_from (suc lines.now.taken) (lines_of lines.now.rest))) }
 {
     let Some(line) = lines.last_line() else {
         return Ok(None);

@@ -14,7 +14,8 @@ const CARRIAGE_RETURN: u8 = b'\r';
 
 const LONGEST_LINE: usize = 65536;
 
-// So many bytes are held at most. A line and a piece are less than half as long, so that fewer bytes are moved than were given up.
+// So many bytes are held at most. A line and a piece are less than half as long, so that fewer bytes are moved than
+// were given up.
 const MOST_HELD: usize = 196608;
 
 /// What there is of the first line.
@@ -28,8 +29,8 @@ pub enum FirstLine {
     Unfinished,
 }
 
-/// Bytes that come in pieces, and the lines that are taken off their front. All memory is there from the start. A contract sees the bytes that
-/// are left, the line that was taken last, and how many were taken.
+/// Bytes that come in pieces, and the lines that are taken off their front. All memory is there from the start. A
+/// contract sees the bytes that are left, the line that was taken last, and how many were taken.
 #[derive(Drop)]
 pub struct LineSplitter {
     buffer: Vec<u8>,
@@ -62,7 +63,8 @@ impl Model for LineSplitter {
     } };
 
     ghost invariant = { λ s. (s.line_start ≤ s.line_end) × (s.line_end ≤ s.start) × (s.start ≤ s.searched) × (s.searched ≤ vec_len s.buffer)
-        × ((k : ℕ) → s.start ≤ k → k < s.searched → slice_index s.buffer.items k ≢ line_feed) × (vec_len s.buffer ≤ most_held) × (most_held ≤ vec_capacity s.buffer) };
+        × ((k : ℕ) → s.start ≤ k → k < s.searched → slice_index s.buffer.items k ≢ line_feed)
+        × (vec_len s.buffer ≤ most_held) × (most_held ≤ vec_capacity s.buffer) };
 }
 
 impl LineSplitter {

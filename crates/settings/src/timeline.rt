@@ -80,8 +80,9 @@ impl Timeline {
         Ok(held)
     }
 
-    /// Makes `held` what is in force from item `from` on to below item `to`, as `between` returns it, in the memory that it has where that is
-    /// enough. `Memory` only where the allocator refuses; what `held` then has is unspecified.
+    /// Makes `held` what is in force from item `from` on to below item `to`, as `between` returns it, in the memory
+    /// that it has where that is enough. `Memory` only where the allocator refuses; what `held` then has is
+    /// unspecified.
     pub fn copy_between(
         &self,
         alloc: Global,
@@ -126,8 +127,8 @@ impl Timeline {
         are_same(held, self.settings.range(..))
     }
 
-    /// Sets the value from item `at` on. `Late` where that is below `floor`, before any memory is asked for. `Memory` only where the allocator
-    /// refuses, and not where a setting of the same item is replaced.
+    /// Sets the value from item `at` on. `Late` where that is below `floor`, before any memory is asked for. `Memory`
+    /// only where the allocator refuses, and not where a setting of the same item is replaced.
     pub fn set(&mut self, at: u64, value: Value, floor: u64) -> Result<(), SettingFault>
         ensures own { self.new.own ≡ self.old.own }
         ensures ok { OnOk result (
@@ -147,7 +148,8 @@ impl Timeline {
         }
     }
 
-    /// Drops the settings that no item from `before` on reads, which are those made before the one in force there. It takes no memory.
+    /// Drops the settings that no item from `before` on reads, which are those made before the one in force there. It
+    /// takes no memory.
     pub fn prune(&mut self, before: u64)
         ensures own { self.new.own ≡ self.old.own }
         ensures settings { self.new.settings ≡ kept_from

@@ -43,7 +43,8 @@ impl Taps {
         self.taps == other.taps
     }
 
-    /// Makes these taps the same as the others, in the memory that they have where that is enough. An `Err` changes nothing.
+    /// Makes these taps the same as the others, in the memory that they have where that is enough. An `Err` changes
+    /// nothing.
     pub fn copy_from(&mut self, other: &Taps) -> Result<(), AllocError>
         ensures ok { OnOk result (self.new ≡ other.now) }
         ensures err { OnErr result (self.new ≡ self.old) }
@@ -85,7 +86,8 @@ impl Value {
         }
     }
 
-    /// Makes this value the same as the other, in the memory that it has where that is enough. An `Err` changes nothing.
+    /// Makes this value the same as the other, in the memory that it has where that is enough. An `Err` changes
+    /// nothing.
     pub fn copy_from(&mut self, alloc: Global, other: &Value) -> Result<(), AllocError>
         ensures ok { OnOk result (value_of self.new ≡ value_of other.now) }
         ensures err { OnErr result (value_of self.new ≡ value_of self.old) }
@@ -124,7 +126,8 @@ impl Held {
         self.at == at && self.value.is_same(value)
     }
 
-    /// Makes this setting one of the value at the item, in the memory that it has where that is enough. An `Err` changes nothing.
+    /// Makes this setting one of the value at the item, in the memory that it has where that is enough. An `Err`
+    /// changes nothing.
     pub fn copy_from(&mut self, alloc: Global, at: u64, value: &Value) -> Result<(), AllocError>
         ensures ok { OnOk result (held_of self.new ≡ held_at at (value_of value.now)) }
         ensures err { OnErr result (held_of self.new ≡ held_of self.old) }

@@ -38,7 +38,8 @@ IsItem-centred_int r h = record { above = grind (arith, ints, nat_tests); below 
 
 -- a wrapped number lies in its type's range
 pub IsItem-wrap : (t : ItemType) (z : ℤ) → IsItem t (wrap t z)
-IsItem-wrap Byte z = let h : residue z 256 < 256 = residue-less z 256 (omega arith) in record { above = omega (arith, ints); below = omega (arith, ints) }
+IsItem-wrap Byte z = let h : residue z 256 < 256 = residue-less z 256 (omega arith) in
+    record { above = omega (arith, ints); below = omega (arith, ints) }
 IsItem-wrap Short z = IsItem-centred_short (residue z 65536) (residue-less z 65536 (omega arith))
 IsItem-wrap Int z = IsItem-centred_int (residue z 4294967296) (residue-less z 4294967296 (omega arith))
 
@@ -50,7 +51,8 @@ IsItem-sat Int z = record { above = grind (arith, ints); below = grind (arith, i
 
 -- an item of a list in the type's range lies in it, and so does what is past the end
 pub IsItem-item : (t : ItemType) (x : List ℤ) (n : ℕ) → AreItems t x → IsItem t (item x n)
-IsItem-item t x n h = elim (cases_lt n (length x)) as (λ _. IsItem t (item x n)) [ inl l ↦ h n (pos 0) l | inr g ↦ subst (IsItem t) (sym (get_or_past x n (pos 0) g)) (IsItem-zero t) ]
+IsItem-item t x n h = elim (cases_lt n (length x)) as (λ _. IsItem t (item x n))
+    [ inl l ↦ h n (pos 0) l | inr g ↦ subst (IsItem t) (sym (get_or_past x n (pos 0) g)) (IsItem-zero t) ]
 
 -- the items of each input lie in the type's range
 pub AreItems-input : (t : ItemType) (xs : List (List ℤ)) (p : ℕ) → All (AreItems t) xs → AreItems t (input xs p)
@@ -62,7 +64,8 @@ AreItems-input t xs p h =
 
 -- lists with the same first items have the same item among these
 pub item-same : (x y : List ℤ) (k n : ℕ) → take k x ≡ take k y → n < k → item x n ≡ item y n
-item-same x y k n e h = sym (get_or-take k x n (pos 0) h) ∙ ap (λ (z : List ℤ). get_or z n (pos 0)) e ∙ get_or-take k y n (pos 0) h
+item-same x y k n e h = sym (get_or-take k x n (pos 0) h) ∙ ap (λ (z : List ℤ). get_or z n (pos 0)) e ∙ get_or-take k y
+    n (pos 0) h
 
 -- item q * d + r of an input, at i items for d: not before the firing that takes it
 early_at : (d i s q r : ℕ) → s ≡ d * q + r → q * i * (2 * d) ≤ 2 * s * i + d
@@ -74,17 +77,20 @@ far_at d i s q r e above whole = rw (whole, above) (omega arith)
 
 -- a tag goes to no place before those of the firing that takes its item
 pub place-not_early : (d i s : ℕ) → 1 ≤ d → s / d * i ≤ place_at_rate d i s
-place-not_early d i s h = le-div (s / d * i) (2 * s * i + d) (2 * d) (omega arith) (early_at d i s (s / d) (s % d) (omega arith))
+place-not_early d i s h = le-div (s / d * i) (2 * s * i + d) (2 * d) (omega arith)
+    (early_at d i s (s / d) (s % d) (omega arith))
 
 -- and to none beyond the place after them
 pub place-not_far : (d i s : ℕ) → 1 ≤ d → place_at_rate d i s ≤ s / d * i + i
 place-not_far d i s h =
     let below_next : place_at_rate d i s < s / d * i + i + 1 =
-    div_below (2 * s * i + d) (2 * d) (s / d * i + i + 1) (omega arith) (far_at d i s (s / d) (s % d) (d - s % d - 1) (omega arith) (omega arith)) in
+    div_below (2 * s * i + d) (2 * d) (s / d * i + i + 1) (omega arith)
+    (far_at d i s (s / d) (s % d) (d - s % d - 1) (omega arith) (omega arith)) in
     omega arith
 
 -- a block at a rate has its counts
-pub IsAtRate-at_rate : (m : Meaning) (p d i : ℕ) → 1 ≤ d → d ≤ 1024 → 1 ≤ i → i ≤ 1024 → ((k : ℕ) → m.taken p k ≡ d * k) → ((k : ℕ) → m.given k ≡ i * k) → ((s : ℕ) → m.place p s ≡ place_at_rate d i s) → IsAtRate m p d i
+pub IsAtRate-at_rate : (m : Meaning) (p d i : ℕ) → 1 ≤ d → d ≤ 1024 → 1 ≤ i → i ≤ 1024 → ((k : ℕ) → m.taken p k ≡ d * k)
+    → ((k : ℕ) → m.given k ≡ i * k) → ((s : ℕ) → m.place p s ≡ place_at_rate d i s) → IsAtRate m p d i
 IsAtRate-at_rate m p d i d_some d_few i_some i_few takes gives places =
     record {
       takes_some = d_some;
@@ -98,7 +104,8 @@ IsAtRate-at_rate m p d i d_some d_few i_some i_few takes gives places =
     }
 
 -- items that agree where k firings at an item a firing take are the same
-pub input-same : (m : Meaning) (k p n : ℕ) (xs ys : List (List ℤ)) → SameInputs m k xs ys → n < m.taken p k → item (input xs p) n ≡ item (input ys p) n
+pub input-same : (m : Meaning) (k p n : ℕ) (xs ys : List (List ℤ)) → SameInputs m k xs ys → n < m.taken p k
+    → item (input xs p) n ≡ item (input ys p) n
 input-same m k p n xs ys same h = item-same (input xs p) (input ys p) (m.taken p k) n (same.items p) h
 
 -- the numbers of a rate lie within their limits
@@ -110,23 +117,35 @@ pub record IsRate (d i : ℕ) : Type 0 where
 
 -- an item for an item
 pub one_for_one : IsRate 1 1
-one_for_one = record { takes_some = omega arith; takes_few = omega arith; gives_some = omega arith; gives_few = omega arith }
+one_for_one = record {
+  takes_some = omega arith;
+  takes_few = omega arith;
+  gives_some = omega arith;
+  gives_few = omega
+      arith;
+}
 
 -- a block at a rate, with a history, a setting, a memory and an equation
-abbrev pub shaped : Signature → Signature → ℕ → ℕ → ℕ → Option Wanted → Option Value → ℕ → (List Held → List (List ℤ) → ℕ → ℕ) → (List Held → List (List ℤ) → ℕ → ℕ → ℤ) → Meaning
+abbrev pub shaped : Signature → Signature → ℕ → ℕ → ℕ → Option Wanted → Option Value → ℕ
+    → (List Held → List (List ℤ) → ℕ → ℕ) → (List Held → List (List ℤ) → ℕ → ℕ → ℤ) → Meaning
 shaped ins outs d i back set mine begin kept gives =
     record (at_rate ins outs d i) { history = back; setting = set; own = mine; start = begin; word = kept; out = gives }
 
 -- such a block is lawful where its parameters, its equation and its memory are
 pub shaped-lawful :
-    (ins outs : Signature) (d i back : ℕ) (set : Option Wanted) (mine : Option Value) (begin : ℕ) (kept : List Held → List (List ℤ) → ℕ → ℕ)
+    (ins outs : Signature) (d i back : ℕ) (set : Option Wanted) (mine : Option Value) (begin : ℕ)
+    (kept : List Held → List (List ℤ) → ℕ → ℕ)
     (gives : List Held → List (List ℤ) → ℕ → ℕ → ℤ) → IsRate d i → 1 ≤ ins.least → 1 ≤ back →
     MatchOption set (mine ≡ None) (λ w. MatchOption mine ⊥ (IsWanted w)) →
     ((ts : List Held) (xs : List (List ℤ)) → kept ts xs 0 ≡ begin) →
-    ((ts : List Held) (xs : List (List ℤ)) (p n : ℕ) → All (AreItems ins.item) xs → IsItem outs.item (gives ts xs p n)) →
-    ((ts us : List Held) (xs ys : List (List ℤ)) (k p n : ℕ) → SameSettings (shaped ins outs d i back set mine begin kept gives) k ts us →
-    SameInputs (shaped ins outs d i back set mine begin kept gives) k xs ys → n < i * k → gives ts xs p n ≡ gives us ys p n) →
-    ((ts us : List Held) (xs ys : List (List ℤ)) (k : ℕ) → SameSettings (shaped ins outs d i back set mine begin kept gives) k ts us →
+    ((ts : List Held) (xs : List (List ℤ)) (p n : ℕ) → All (AreItems ins.item) xs → IsItem outs.item (gives ts xs p n))
+    →
+    ((ts us : List Held) (xs ys : List (List ℤ)) (k p n : ℕ) → SameSettings
+    (shaped ins outs d i back set mine begin kept gives) k ts us →
+    SameInputs (shaped ins outs d i back set mine begin kept gives) k xs ys → n < i * k → gives ts xs p n
+    ≡ gives us ys p n) →
+    ((ts us : List Held) (xs ys : List (List ℤ)) (k : ℕ) → SameSettings
+    (shaped ins outs d i back set mine begin kept gives) k ts us →
     SameInputs (shaped ins outs d i back set mine begin kept gives) k xs ys → kept ts xs k ≡ kept us ys k) →
     IsLawful (shaped ins outs d i back set mine begin kept gives)
 shaped-lawful ins outs d i back set mine begin kept gives rate used reads owned starts in_range local local_word =
@@ -134,7 +153,8 @@ shaped-lawful ins outs d i back set mine begin kept gives rate used reads owned 
       role = used;
       counts = λ p. (
         refl,
-        IsAtRate-at_rate (shaped ins outs d i back set mine begin kept gives) p d i rate.takes_some rate.takes_few rate.gives_some
+        IsAtRate-at_rate (shaped ins outs d i back set mine begin kept gives) p d i rate.takes_some rate.takes_few
+            rate.gives_some
             rate.gives_few (λ k. refl) (λ k. refl) (λ s. refl),
       );
       reads_now = reads;
@@ -147,22 +167,28 @@ shaped-lawful ins outs d i back set mine begin kept gives rate used reads owned 
     }
 
 -- items that agree at each number from a on have one list, and one sum
-pub map-same : {X : Type 0} (f g : ℕ → X) (a count : ℕ) → ((j : ℕ) → a ≤ j → j < a + count → f j ≡ g j) → map f (numbers_from a count) ≡ map g (numbers_from a count)
+pub map-same : {X : Type 0} (f g : ℕ → X) (a count : ℕ) → ((j : ℕ) → a ≤ j → j < a + count → f j ≡ g j)
+    → map f (numbers_from a count) ≡ map g (numbers_from a count)
 map-same f g a zero same = refl
-map-same f g a (suc count) same = ap₂ ◌∷◌ (same a (omega arith) (omega arith)) (map-same f g (a + 1) count (λ j from to. same j (omega arith) (omega arith)))
+map-same f g a (suc count) same = ap₂ ◌∷◌ (same a (omega arith) (omega arith))
+    (map-same f g (a + 1) count (λ j from to. same j (omega arith) (omega arith)))
 
-pub sum_below-same : (count : ℕ) (f g : ℕ → ℤ) → ((j : ℕ) → j < count → f j ≡ g j) → sum_below count f ≡ sum_below count g
+pub sum_below-same : (count : ℕ) (f g : ℕ → ℤ) → ((j : ℕ) → j < count → f j ≡ g j) → sum_below count f
+    ≡ sum_below count g
 sum_below-same count f g same = ap total (map-same f g 0 count (λ j from to. same j (omega arith)))
 
 -- the past of an item that is among those that agree
-pub past-same : (x y : List ℤ) (k n back : ℕ) → take k x ≡ take k y → n < k → item_before x n back ≡ item_before y n back
+pub past-same : (x y : List ℤ) (k n back : ℕ) → take k x ≡ take k y → n < k → item_before x n back
+    ≡ item_before y n back
 past-same x y k n back e h = ap (λ z. if nat_le back n then z else pos 0) (item-same x y k (n - back) e (omega arith))
 
 -- an item of a mapped run of numbers, and how many there are
-pub get_or-map_numbers : {X : Type 0} (f : ℕ → X) (a count n : ℕ) (d : X) → n < count → get_or (map f (numbers_from a count)) n d ≡ f (a + n)
+pub get_or-map_numbers : {X : Type 0} (f : ℕ → X) (a count n : ℕ) (d : X) → n < count
+    → get_or (map f (numbers_from a count)) n d ≡ f (a + n)
 get_or-map_numbers f a zero n d h = absurd (omega arith)
 get_or-map_numbers f a (suc count) zero d h = ap f (omega arith)
-get_or-map_numbers f a (suc count) (suc n) d h = get_or-map_numbers f (a + 1) count n d (omega arith) ∙ ap f (omega arith)
+get_or-map_numbers f a (suc count) (suc n) d h = get_or-map_numbers f (a + 1) count n d (omega arith) ∙ ap f
+    (omega arith)
 
 pub length-map_numbers : {X : Type 0} (f : ℕ → X) (a count : ℕ) → length (map f (numbers_from a count)) ≡ count
 length-map_numbers f a zero = refl
@@ -177,12 +203,16 @@ length-listed count f = length-map_numbers f 0 count
 
 -- and of what a block gives
 pub item-given_items :
-    (m : Meaning) (ts : List Held) (xs : List (List ℤ)) (first count p n : ℕ) → n < m.given (first + count) - m.given first →
+    (m : Meaning) (ts : List Held) (xs : List (List ℤ)) (first count p n : ℕ)
+    → n < m.given (first + count) - m.given first →
     item (given_items m ts xs first count p) n ≡ m.out ts xs p (m.given first + n)
-item-given_items m ts xs first count p n h = get_or-map_numbers (m.out ts xs p) (m.given first) (m.given (first + count) - m.given first) n (pos 0) h
+item-given_items m ts xs first count p n h = get_or-map_numbers (m.out ts xs p) (m.given first)
+    (m.given (first + count) - m.given first) n (pos 0) h
 
-pub length-given_items : (m : Meaning) (ts : List Held) (xs : List (List ℤ)) (first count p : ℕ) → length (given_items m ts xs first count p) ≡ m.given (first + count) - m.given first
-length-given_items m ts xs first count p = length-map_numbers (m.out ts xs p) (m.given first) (m.given (first + count) - m.given first)
+pub length-given_items : (m : Meaning) (ts : List Held) (xs : List (List ℤ)) (first count p : ℕ)
+    → length (given_items m ts xs first count p) ≡ m.given (first + count) - m.given first
+length-given_items m ts xs first count p = length-map_numbers (m.out ts xs p) (m.given first)
+    (m.given (first + count) - m.given first)
 
 -- the sum of a list with one more in front
 pub sum-cons : (x : ℕ) (xs : List ℕ) → sum (x ∷ xs) ≡ x + sum xs

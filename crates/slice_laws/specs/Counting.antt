@@ -6,7 +6,8 @@ use Rattle.stream_laws.specs.CanRun.{CanRun}
 
 -- each tape has as many items as its source fires in j iterations
 abbrev pub HasIterations : Network → List ℕ → ℕ → List Handed → Type 0
-HasIterations net q j hs = (b : ℕ) → b < length net.nodes → is_source (role_at net b) ≡ true → length (handed_at hs b).tape ≡ j * slice_index q b
+HasIterations net q j hs = (b : ℕ) → b < length net.nodes → is_source (role_at net b) ≡ true
+    → length (handed_at hs b).tape ≡ j * slice_index q b
 
 -- how many items a block has given on each output after j iterations
 abbrev pub given_after : Network → List ℕ → ℕ → ℕ → ℕ
@@ -19,5 +20,6 @@ IsEndless net = (b : ℕ) → (node_at net b).meaning.limit ≡ None
 -- on tapes of j iterations a stream is as long as the counts of rates say
 abbrev pub StreamsAreCounted : Type 0
 StreamsAreCounted =
-    (net : Network) → CanRun net → CanCount net → (q : List ℕ) → IsEndless net → (j : ℕ) (hs : List Handed) → HasIterations net q j hs →
+    (net : Network) → CanRun net → CanCount net → (q : List ℕ) → IsEndless net → (j : ℕ) (hs : List Handed)
+    → HasIterations net q j hs →
     (b p : ℕ) → b < length net.nodes → length (items_of net hs b p) ≡ given_after net q j b

@@ -20,31 +20,36 @@ on_by c t = record t { offset = c + t.offset }
 abbrev pub ahead_by : ℕ → List Tag → List Tag
 ahead_by c ts = map (on_by c) ts
 
--- A block moves a tag k firings later to where it goes k firings later, from some item of each input on. A tag before that item goes to before what
--- the block gives from firing f on
+-- A block moves a tag k firings later to where it goes k firings later, from some item of each input on. A tag before
+-- that item goes to before what the block gives from firing f on
 pub record Places (m : Meaning) (right : ℕ → ℕ) (f : ℕ) : Type 0 where
   pub late : ℕ → ℕ
   pub enough : (p : ℕ) → right p ≤ late p
-  pub moves : (p s k : ℕ) → p < m.inputs.most → late p ≤ s → m.place p (taken_at (m.rate p) * k + s) ≡ given_at (m.rate 0) * k + m.place p s
-  pub early : (p s k : ℕ) → p < m.inputs.most → s < taken_at (m.rate p) * k + late p → m.place p s < given_at (m.rate 0) * k + m.given f
+  pub moves : (p s k : ℕ) → p < m.inputs.most → late p ≤ s → m.place p (taken_at (m.rate p) * k + s)
+      ≡ given_at (m.rate 0) * k + m.place p s
+  pub early : (p s k : ℕ) → p < m.inputs.most → s < taken_at (m.rate p) * k + late p
+      → m.place p s < given_at (m.rate 0) * k + m.given f
 
 -- each block that lets tags through moves them so, if the tags of its inputs are right from these items on
 abbrev pub ArePlaced : Network → (ℕ → ℕ) → Type 0
 ArePlaced net f =
-    (b : ℕ) → b < length net.nodes → is_source (role_at net b) ≡ false → (node_at net b).policy ≢ policy.None → Places (node_at net b).meaning (right_of net f b) (f b)
+    (b : ℕ) → b < length net.nodes → is_source (role_at net b) ≡ false → (node_at net b).policy ≢ policy.None
+    → Places (node_at net b).meaning (right_of net f b) (f b)
 
 -- the marks that are left without the first k iterations
 abbrev pub AreRestTags : Network → List ℕ → ℕ → List Handed → List Handed → Type 0
 AreRestTags net q k hs rest =
     (b : ℕ) → b < length net.nodes → is_source (role_at net b) ≡ true →
-    tags_from_item (k * slice_index q b) (sorted_tags (handed_at hs b).tags) ≡ ahead_by (k * slice_index q b) (sorted_tags (handed_at rest b).tags)
+    tags_from_item (k * slice_index q b) (sorted_tags (handed_at hs b).tags)
+    ≡ ahead_by (k * slice_index q b) (sorted_tags (handed_at rest b).tags)
 
--- the item from which on both a stream and its tags are right: blocks settle at firings f, and tags that may be wrong lie before
--- what firings g give
+-- the item from which on both a stream and its tags are right: blocks settle at firings f, and tags that may be wrong
+-- lie before what firings g give
 abbrev pub both_right : Network → (ℕ → ℕ) → (ℕ → ℕ) → ℕ → ℕ
 both_right net f g b = max (settled net f b) (settled net g b)
 
--- the tags of each stream of the second network are those of the first without its k iterations, from the item on from which they are right
+-- the tags of each stream of the second network are those of the first without its k iterations, from the item on from
+-- which they are right
 abbrev pub TagsAreRest : Network → Network → List ℕ → (ℕ → ℕ) → (ℕ → ℕ) → ℕ → List Handed → List Handed → Type 0
 TagsAreRest net resumed q f g k hs rest =
     (b p : ℕ) → b < length net.nodes → p < (node_at net b).meaning.outputs.most →
@@ -54,11 +59,15 @@ TagsAreRest net resumed q f g k hs rest =
 -- on the rest of the tapes a second network gives the rest of the tags
 abbrev pub TagsResume : Type 0
 TagsResume =
-    (net resumed : Network) → CanRun net → (q : List ℕ) → IsBalanced net q → (f g : ℕ → ℕ) → ArePlaced net g → (k : ℕ) → IsResumed net q k f resumed →
-    (hs rest : List Handed) → AreRest net q k hs rest → AreRestTags net q k hs rest → TagsAreRest net resumed q f g k hs rest
+    (net resumed : Network) → CanRun net → (q : List ℕ) → IsBalanced net q → (f g : ℕ → ℕ) → ArePlaced net g → (k : ℕ)
+    → IsResumed net q k f resumed →
+    (hs rest : List Handed) → AreRest net q k hs rest → AreRestTags net q k hs rest
+    → TagsAreRest net resumed q f g k hs rest
 
 -- a network whose blocks all forget gives them itself
 abbrev pub TagsShift : Type 0
 TagsShift =
-    (net : Network) → CanRun net → (q : List ℕ) → IsBalanced net q → (f g : ℕ → ℕ) → AreSettled net f → ArePlaced net g →
-    (k : ℕ) (hs rest : List Handed) → AreRest net q k hs rest → AreRestTags net q k hs rest → TagsAreRest net net q f g k hs rest
+    (net : Network) → CanRun net → (q : List ℕ) → IsBalanced net q → (f g : ℕ → ℕ) → AreSettled net f → ArePlaced net g
+    →
+    (k : ℕ) (hs rest : List Handed) → AreRest net q k hs rest → AreRestTags net q k hs rest
+    → TagsAreRest net net q f g k hs rest

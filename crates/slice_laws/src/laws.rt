@@ -7,8 +7,8 @@ ghost use Rattle.slice_laws.specs.Counting.{StreamsAreCounted};
 ghost use Rattle.slice_laws.specs.Joining.{SlicesJoin, SliceTagsJoin};
 ghost use Rattle.slice_laws.specs.Jumps.{HeadsResume, AdditiveScramblersResume};
 
-/// Some iterations of the tapes are left out. If all blocks forget, the run on the rest gives the rest of each stream, from the item on from
-/// which the stream is right.
+/// Some iterations of the tapes are left out. If all blocks forget, the run on the rest gives the rest of each stream,
+/// from the item on from which the stream is right.
 pub fn streams_shift()
     ensures { StreamsShift }
 {}
@@ -38,7 +38,8 @@ pub fn additive_scramblers_resume()
     ensures { AdditiveScramblersResume }
 {}
 
-/// Where blocks count from the start, a second network gives the rest of the streams: in it these blocks have the parameters that they go on with.
+/// Where blocks count from the start, a second network gives the rest of the streams: in it these blocks have the
+/// parameters that they go on with.
 pub fn streams_resume()
     ensures { StreamsResume }
 {}
@@ -68,7 +69,8 @@ pub fn streams_are_counted()
     ensures { StreamsAreCounted }
 {}
 
-/// A slice that begins enough iterations early, and drops what it gives in these, goes on where the run before it stood.
+/// A slice that begins enough iterations early, and drops what it gives in these, goes on where the run before it
+/// stood.
 pub fn slices_join()
     ensures { SlicesJoin }
 {}

@@ -48,8 +48,8 @@ pub record CutsAlike (old new : Feeds) : Type 0 where
   pub overlap : new.overlap ≡ old.overlap
   pub most : new.most ≡ old.most
 
--- how many items that a sink gets of a piece are not its own: none of the first; behind the overlap those that come of it; within it those that
--- the pieces before gave, and those before the first that is wanted
+-- how many items that a sink gets of a piece are not its own: none of the first; behind the overlap those that come of
+-- it; within it those that the pieces before gave, and those before the first that is wanted
 abbrev pub drop_of : ℕ → ℕ → Share → ℕ → ℕ
 drop_of begins overlap s before =
     if nat_lt begins overlap then counted (s.from + before) else (if nat_eq begins 0 then 0 else s.drop)
@@ -63,4 +63,5 @@ part_of begins overlap s before =
 -- the same of each sink; none was given items where nothing is said of it
 pub record AreParts (begins overlap : ℕ) (shares : List Share) (given : List ℕ) (parts : List StreamPart) : Type 0 where
   pub long : length parts ≡ length shares
-  pub each : (at : ℕ) (s : Share) → slice_get shares at ≡ Some s → slice_get parts at ≡ Some (part_of begins overlap s (slice_index given at))
+  pub each : (at : ℕ) (s : Share) → slice_get shares at ≡ Some s → slice_get parts at
+      ≡ Some (part_of begins overlap s (slice_index given at))

@@ -159,7 +159,8 @@ impl Feed {
         kept: u64,
     ) -> Result<Tape, AllocError>
         ensures source { IfOk result (λ tape. tape.source ≡ self.old.stride.source) }
-        ensures piece { IfOk result (λ tape. tape.room ≡ take (piece_of self.old.stride iterations self.old.room) self.old.room) }
+        ensures piece { IfOk result (λ tape. tape.room ≡ take (piece_of self.old.stride iterations self.old.room)
+            self.old.room) }
         ensures origin { IfOk result (λ tape. tape.origin ≡ counted (begins * self.old.stride.period)) }
         ensures marked { IfOk result (λ tape. self.old.marks ≡ None → tape.marks ≡ None) }
         ensures left { OnOk result (self.new.room ≡ left_of self.old.stride iterations kept self.old.room) }
@@ -184,7 +185,8 @@ impl Feed {
 
     // Cuts off the bytes of so many iterations. It keeps the bytes of the last ones, and what follows.
     fn cut_bytes(&mut self, alloc: Global, iterations: u64, kept: u64) -> Result<Room, AllocError>
-        ensures piece { IfOk result (λ room. room ≡ take (piece_of self.old.stride iterations self.old.room) self.old.room) }
+        ensures piece { IfOk result (λ room. room ≡ take (piece_of self.old.stride iterations self.old.room)
+            self.old.room) }
         ensures left { OnOk result (self.new.room ≡ left_of self.old.stride iterations kept self.old.room) }
         ensures stride { self.new.stride ≡ self.old.stride }
         ensures marks { self.new.marks ≡ self.old.marks }

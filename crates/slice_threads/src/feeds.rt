@@ -244,7 +244,8 @@ impl Feeds {
         given: &[u64],
     ) -> Result<Piece, AllocError>
         ensures first { IfOk result (λ piece. piece.first ≡ first_of self.old.begins self.old.overlap) }
-        ensures parts { IfOk result (λ piece. AreParts self.old.begins self.old.overlap shares.now given.now piece.parts.items) }
+        ensures parts { IfOk result (λ piece. AreParts self.old.begins self.old.overlap shares.now given.now
+            piece.parts.items) }
         ensures begins { OnOk result (self.new.begins ≡ counted (self.old.begins + iterations)) }
         ensures overlap { self.new.overlap ≡ self.old.overlap }
         ensures most { self.new.most ≡ self.old.most }

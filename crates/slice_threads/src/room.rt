@@ -77,7 +77,8 @@ impl Room {
         reader: &mut R,
         most: usize,
     ) -> Result<io::Result<usize>, AllocError>
-        ensures end { IfOk result (λ read. IfOk read (λ count. count ≡ 0 → 0 < most → IsAtEnd (R.remaining reader.new))) }
+        ensures end { IfOk result (λ read. IfOk read (λ count. count ≡ 0 → 0 < most
+            → IsAtEnd (R.remaining reader.new))) }
         ensures err { OnErr result (self.new ≡ self.old) }
     {
         let end = self.count.saturating_add(most);

@@ -76,9 +76,12 @@ impl<F: Read + Drop> Supply<F> {
     ) -> Result<Option<Next>, AllocError>
         ensures number { IfOk result (λ next. IfSome next (λ n. n.number ≡ self.old.pieces)) }
         ensures pieces { IfOk result (λ next. IfSome next (λ _. self.new.pieces ≡ counted (self.old.pieces + 1))) }
-        ensures iterations { IfOk result (λ next. IfSome next (λ n. self.new.iterations ≡ counted (self.old.iterations + n.iterations))) }
-        ensures first { IfOk result (λ next. IfSome next (λ n. n.piece.first ≡ first_of self.old.intake.feeds.begins self.old.intake.feeds.overlap)) }
-        ensures begins { IfOk result (λ next. IfSome next (λ n. self.new.intake.feeds.begins ≡ counted (self.old.intake.feeds.begins + n.iterations))) }
+        ensures iterations { IfOk result (λ next. IfSome next (λ n. self.new.iterations
+            ≡ counted (self.old.iterations + n.iterations))) }
+        ensures first { IfOk result (λ next. IfSome next (λ n. n.piece.first
+            ≡ first_of self.old.intake.feeds.begins self.old.intake.feeds.overlap)) }
+        ensures begins { IfOk result (λ next. IfSome next (λ n. self.new.intake.feeds.begins
+            ≡ counted (self.old.intake.feeds.begins + n.iterations))) }
         ensures overlap { self.new.intake.feeds.overlap ≡ self.old.intake.feeds.overlap }
         ensures none { IfOk result (λ next. IfNone next (self.new.pieces ≡ self.old.pieces)) }
         ensures left { IfOk result (λ next. IfNone next (self.new.intake.feeds.begins ≡ self.old.intake.feeds.begins)) }
@@ -121,8 +124,10 @@ impl<F: Read + Drop> Intake<F> {
         number: u64,
     ) -> Result<Option<(u64, Piece)>, AllocError>
         ensures few { IfOk result (λ next. IfSome next (λ n. n.0 ≤ self.old.feeds.most)) }
-        ensures first { IfOk result (λ next. IfSome next (λ n. n.1.first ≡ first_of self.old.feeds.begins self.old.feeds.overlap)) }
-        ensures begins { IfOk result (λ next. IfSome next (λ n. self.new.feeds.begins ≡ counted (self.old.feeds.begins + n.0))) }
+        ensures first { IfOk result (λ next. IfSome next (λ n. n.1.first
+            ≡ first_of self.old.feeds.begins self.old.feeds.overlap)) }
+        ensures begins { IfOk result (λ next. IfSome next (λ n. self.new.feeds.begins
+            ≡ counted (self.old.feeds.begins + n.0))) }
         ensures overlap { self.new.feeds.overlap ≡ self.old.feeds.overlap }
         ensures left { IfOk result (λ next. IfNone next (CutsAlike self.old.feeds self.new.feeds)) }
     {

@@ -33,7 +33,8 @@ pub record AreBelow (net : Network) (q : List ℕ) (j : ℕ) (counts : List ℕ)
 -- the writers of a block have their counts
 abbrev pub AreFollowed : Network → List ℕ → ℕ → List ℕ → ℕ → Type 0
 AreFollowed net q j counts b =
-    (p : ℕ) → p < length (writers_of net b) → slice_index counts (writer_of net b p).from ≡ count_after net q (writer_of net b p).from j
+    (p : ℕ) → p < length (writers_of net b) → slice_index counts (writer_of net b p).from
+    ≡ count_after net q (writer_of net b p).from j
 
 -- the count of a block by those of its writers: it is not above that of the rates, and is that one if theirs are
 pub record IsNext (net : Network) (q : List ℕ) (j : ℕ) (counts : List ℕ) (b count : ℕ) : Type 0 where
@@ -44,7 +45,8 @@ pub record IsNext (net : Network) (q : List ℕ) (j : ℕ) (counts : List ℕ) (
 pub record HasCounted (net : Network) (q : List ℕ) (j : ℕ) (old new : List ℕ) (risen : Bool) : Type 0 where
   pub below : AreBelow net q j new
   pub more : risen ≡ true → sum old < sum new
-  pub reaches : risen ≡ false → (b : ℕ) → b < length net.nodes → AreFollowed net q j new b → count_after net q b j ≤ slice_index new b
+  pub reaches : risen ≡ false → (b : ℕ) → b < length net.nodes → AreFollowed net q j new b
+      → count_after net q b j ≤ slice_index new b
 
 -- the counts of the rates
 pub record AreCounted (net : Network) (q : List ℕ) (j : ℕ) (counts : List ℕ) : Type 0 where

@@ -23,7 +23,8 @@ firing_at first b = slice_index first b
 
 -- firing x of the reader of a connection looks at nothing before the item from which on its writer is right
 abbrev pub IsEnough : Network → List Reach → (ℕ → ℕ) → Connection → ℕ → Type 0
-IsEnough net rs f c x = needs (reach_at rs c.to).back (settled net f c.from) ≤ taken_at ((node_at net c.to).meaning.rate c.in_port) * x
+IsEnough net rs f c x = needs (reach_at rs c.to).back (settled net f c.from) ≤ taken_at
+    ((node_at net c.to).meaning.rate c.in_port) * x
 
 -- the firings f are far enough: behind those that cannot be right, and along each connection
 pub record AreFar (net : Network) (rs : List Reach) (f : ℕ → ℕ) : Type 0 where
@@ -57,16 +58,20 @@ pub record HasRisen (net : Network) (rs : List Reach) (old new : List ℕ) (rise
   pub kept : (b : ℕ) → slice_index old b ≤ slice_index new b
   pub more : risen ≡ true → sum old < sum new
   pub still : risen ≡ false → new ≡ old
-  pub enough : risen ≡ false → All (λ c. slice_index new c.to ≤ MOST_FIRINGS → IsEnough net rs (firing_at new) c (slice_index new c.to)) net.connections
-  pub least : (f : ℕ → ℕ) → AreFar net rs f → ((b : ℕ) → b < length net.nodes → slice_index old b ≤ f b) → (b : ℕ) → b < length net.nodes → slice_index new b ≤ f b
+  pub enough : risen ≡ false → All (λ c. slice_index new c.to ≤ MOST_FIRINGS
+      → IsEnough net rs (firing_at new) c (slice_index new c.to)) net.connections
+  pub least : (f : ℕ → ℕ) → AreFar net rs f → ((b : ℕ) → b < length net.nodes → slice_index old b ≤ f b) → (b : ℕ)
+      → b < length net.nodes → slice_index new b ≤ f b
 
 -- firings that are on their way to those
 pub record AreBegun (net : Network) (rs : List Reach) (first : List ℕ) : Type 0 where
   pub can : CanRise net first
-  pub past : (b : ℕ) → b < length net.nodes → slice_index first b ≤ MOST_FIRINGS → (reach_at rs b).start ≤ slice_index first b
+  pub past : (b : ℕ) → b < length net.nodes → slice_index first b ≤ MOST_FIRINGS
+      → (reach_at rs b).start ≤ slice_index first b
   pub least : (f : ℕ → ℕ) → AreFar net rs f → (b : ℕ) → b < length net.nodes → slice_index first b ≤ f b
 
 -- and those of which none has to rise any more
 pub record AreRisen (net : Network) (rs : List Reach) (first : List ℕ) : Type 0 where
   pub begun : AreBegun net rs first
-  pub enough : All (λ c. slice_index first c.to ≤ MOST_FIRINGS → IsEnough net rs (firing_at first) c (slice_index first c.to)) net.connections
+  pub enough : All (λ c. slice_index first c.to ≤ MOST_FIRINGS → IsEnough net rs (firing_at first) c
+      (slice_index first c.to)) net.connections

@@ -46,11 +46,13 @@ module _ (m : Meaning) (start back inputs : ℕ) (right : ℕ → ℕ) (f : ℕ)
   behind d same p =
       elim (cases_lt p inputs) [
         | inl used ↦ (let h = far.used p used in let e = ap (λ n. n * f) (same p) in omega arith)
-        | inr not ↦ (let none = far.others p not in let h = far.used 0 far.some in let e = ap (λ n. n * f) (same 0) in omega arith)
+        | inr not ↦ (let none = far.others p not in let h = far.used 0 far.some in let e = ap (λ n. n * f) (same 0) in
+            omega arith)
       ]
 
 -- a block that forgets goes on as it is
-settled_by : (m : Meaning) (look : LookBack) → (is_source m.role ≡ false → (inputs : ℕ) (right : ℕ → ℕ) (f : ℕ) → IsFarEnough m (start_of look) (back_of look) inputs right f → Settles m right f) →
+settled_by : (m : Meaning) (look : LookBack) → (is_source m.role ≡ false → (inputs : ℕ) (right : ℕ → ℕ) (f : ℕ)
+    → IsFarEnough m (start_of look) (back_of look) inputs right f → Settles m right f) →
     (c : ℕ) → GoesOnAs m look c m
 settled_by m look settles c =
     record {
@@ -62,41 +64,58 @@ settled_by m look settles c =
     }
 
 -- a block of which a firing reads what it takes of each input
-at_paces : (m : Meaning) → ((right : ℕ → ℕ) (f : ℕ) → ((p : ℕ) → right p ≤ taken_at (m.rate p) * f) → Settles m right f) → (c : ℕ) → GoesOnAs m (Items 0) c m
-at_paces m settles = settled_by m (Items 0) (λ work inputs right f far. settles right f (reached m 0 0 inputs right f far))
+at_paces : (m : Meaning) → ((right : ℕ → ℕ) (f : ℕ) → ((p : ℕ) → right p ≤ taken_at (m.rate p) * f) → Settles m right f)
+    → (c : ℕ) → GoesOnAs m (Items 0) c m
+at_paces m settles = settled_by m (Items 0) (λ work inputs right f far. settles right f
+    (reached m 0 0 inputs right f far))
 
 -- the same number of each
-paced : (m : Meaning) (d : ℕ) → ((p : ℕ) → taken_at (m.rate p) ≡ d) → ((right : ℕ → ℕ) (f : ℕ) → ((p : ℕ) → right p ≤ d * f) → Settles m right f) → (c : ℕ) → GoesOnAs m (Items 0) c m
-paced m d same settles = at_paces m (λ right f reached. settles right f (λ p. subst (λ n. right p ≤ n * f) (same p) (reached p)))
+paced : (m : Meaning) (d : ℕ) → ((p : ℕ) → taken_at (m.rate p) ≡ d)
+    → ((right : ℕ → ℕ) (f : ℕ) → ((p : ℕ) → right p ≤ d * f) → Settles m right f) → (c : ℕ) → GoesOnAs m (Items 0) c m
+paced m d same settles = at_paces m (λ right f reached. settles right f
+    (λ p. subst (λ n. right p ≤ n * f) (same p) (reached p)))
 
 -- an item of each
-sync : (m : Meaning) → ((p : ℕ) → taken_at (m.rate p) ≡ 1) → ((right : ℕ → ℕ) (f : ℕ) → ((p : ℕ) → right p ≤ f) → Settles m right f) → (c : ℕ) → GoesOnAs m (Items 0) c m
+sync : (m : Meaning) → ((p : ℕ) → taken_at (m.rate p) ≡ 1) → ((right : ℕ → ℕ) (f : ℕ) → ((p : ℕ) → right p ≤ f)
+    → Settles m right f) → (c : ℕ) → GoesOnAs m (Items 0) c m
 sync m same settles = paced m 1 same (λ right f reached. settles right f (λ p. let r = reached p in omega arith))
 
 -- and so many items before
-past : (m : Meaning) (back d : ℕ) → ((p : ℕ) → taken_at (m.rate p) ≡ d) → ((right : ℕ → ℕ) (f : ℕ) → ((p : ℕ) → right p + back ≤ d * f) → Settles m right f) → (c : ℕ) → GoesOnAs m (Items back) c m
-past m back d same settles = settled_by m (Items back) (λ work inputs right f far. settles right f (behind m 0 back inputs right f far d same))
+past : (m : Meaning) (back d : ℕ) → ((p : ℕ) → taken_at (m.rate p) ≡ d)
+    → ((right : ℕ → ℕ) (f : ℕ) → ((p : ℕ) → right p + back ≤ d * f) → Settles m right f) → (c : ℕ)
+    → GoesOnAs m (Items back) c m
+past m back d same settles = settled_by m (Items back) (λ work inputs right f far. settles right f
+    (behind m 0 back inputs right f far d same))
 
 -- a round has some items
 some_in_round : (lengths : List ℕ) → 1 ≤ length lengths → All (λ l. (1 ≤ l) × (l ≤ 1024)) lengths → 1 ≤ sum lengths
 some_in_round [] some each = absurd (omega arith)
-some_in_round (l ∷ ls) some each = let h = (All-head (λ l. (1 ≤ l) × (l ≤ 1024)) l ls each).0 in let e = sum-cons l ls in omega arith
+some_in_round (l ∷ ls) some each = let h = (All-head (λ l. (1 ≤ l) × (l ≤ 1024)) l ls each).0 in let e = sum-cons l ls
+    in omega arith
 
 repacks : {K : _} (b : Repacking K) → (c : ℕ) → GoesOnAs (repacking_of b) (Items 0) c (repacking_of b)
-repacks b = at_paces (repacking_of b) (λ right f reached. repacking-settles b.item b.from b.to b.read b.write right f b.some reached)
+repacks b = at_paces (repacking_of b) (λ right f reached. repacking-settles b.item b.from b.to b.read b.write right f
+    b.some reached)
 
 pub look_back_of-holds : (k : Kind) → HasLookBack (meaning_of k) (later_of k) (look_back_of k)
 look_back_of-holds (VectorSource b) is = settled_by _ (Items 0) (λ work inputs right f far. absurd (cc))
 look_back_of-holds (VectorSink b) is = sync _ (λ p. refl) (vector_sink-settles b.item)
 look_back_of-holds (NullSink b) is = sync _ (λ p. refl) (null_sink-settles b.item)
 look_back_of-holds (AddConst b) is = sync _ (λ p. refl) (add_const-settles b.item b.value)
-look_back_of-holds (MultiplyConst b) is = sync _ (λ p. refl) (λ right f reached. multiply_const-settles right f reached b.item b.value)
-look_back_of-holds (DivideConst b) is = sync _ (λ p. refl) (λ right f reached. divide_const-settles right f reached b.item b.value)
-look_back_of-holds (AndConst b) is = sync _ (λ p. refl) (λ right f reached. bitwise_const-settles right f reached bit_and b.item b.value)
-look_back_of-holds (OrConst b) is = sync _ (λ p. refl) (λ right f reached. bitwise_const-settles right f reached bit_or b.item b.value)
-look_back_of-holds (XorConst b) is = sync _ (λ p. refl) (λ right f reached. bitwise_const-settles right f reached bit_xor b.item b.value)
-look_back_of-holds (Scale b) is = sync _ (λ p. refl) (λ right f reached. scale-settles right f reached b.item b.factor b.shift)
-look_back_of-holds (Clip b) is = sync _ (λ p. refl) (λ right f reached. clip-settles right f reached b.makes.item b.makes.low b.makes.high)
+look_back_of-holds (MultiplyConst b) is = sync _ (λ p. refl) (λ right f reached. multiply_const-settles right f reached
+    b.item b.value)
+look_back_of-holds (DivideConst b) is = sync _ (λ p. refl) (λ right f reached. divide_const-settles right f reached
+    b.item b.value)
+look_back_of-holds (AndConst b) is = sync _ (λ p. refl) (λ right f reached. bitwise_const-settles right f reached
+    bit_and b.item b.value)
+look_back_of-holds (OrConst b) is = sync _ (λ p. refl) (λ right f reached. bitwise_const-settles right f reached bit_or
+    b.item b.value)
+look_back_of-holds (XorConst b) is = sync _ (λ p. refl) (λ right f reached. bitwise_const-settles right f reached
+    bit_xor b.item b.value)
+look_back_of-holds (Scale b) is = sync _ (λ p. refl) (λ right f reached. scale-settles right f reached b.item b.factor
+    b.shift)
+look_back_of-holds (Clip b) is = sync _ (λ p. refl) (λ right f reached. clip-settles right f reached b.makes.item
+    b.makes.low b.makes.high)
 look_back_of-holds (Abs b) is = sync _ (λ p. refl) (λ right f reached. abs-settles right f reached b.makes.item)
 look_back_of-holds (Not b) is = sync _ (λ p. refl) (λ right f reached. not-settles right f reached b.makes.item)
 look_back_of-holds (Mute b) is = sync _ (λ p. refl) (λ right f reached. mute-settles right f reached b.item b.on)
@@ -106,68 +125,98 @@ look_back_of-holds (Multiply b) is = sync _ (λ p. refl) (λ right f reached. mu
 look_back_of-holds (Divide b) is = sync _ (λ p. refl) (λ right f reached. divide-settles right f reached b.item)
 look_back_of-holds (Minimum b) is = sync _ (λ p. refl) (λ right f reached. minimum-settles right f reached b.item)
 look_back_of-holds (Maximum b) is = sync _ (λ p. refl) (λ right f reached. maximum-settles right f reached b.item)
-look_back_of-holds (And b) is = sync _ (λ p. refl) (λ right f reached. bitwise-settles right f reached bit_and (numbers_in b.item - 1) b.item)
+look_back_of-holds (And b) is = sync _ (λ p. refl) (λ right f reached. bitwise-settles right f reached bit_and
+    (numbers_in b.item - 1) b.item)
 look_back_of-holds (Or b) is = sync _ (λ p. refl) (λ right f reached. bitwise-settles right f reached bit_or 0 b.item)
 look_back_of-holds (Xor b) is = sync _ (λ p. refl) (λ right f reached. bitwise-settles right f reached bit_xor 0 b.item)
 look_back_of-holds (SampleAndHold b) is = absurd (cc)
-look_back_of-holds (MapBb b) is = sync _ (λ p. refl) (λ right f reached. map_bb-settles right f reached (map pos b.table.items))
-look_back_of-holds (Table b) is = sync _ (λ p. refl) (λ right f reached. table-settles right f reached (type_of b.values) (numbers_of b.values))
+look_back_of-holds (MapBb b) is = sync _ (λ p. refl) (λ right f reached. map_bb-settles right f reached
+    (map pos b.table.items))
+look_back_of-holds (Table b) is = sync _ (λ p. refl) (λ right f reached. table-settles right f reached
+    (type_of b.values) (numbers_of b.values))
 look_back_of-holds (Convert b) is = sync _ (λ p. refl) (λ right f reached. convert-settles right f reached b.item b.to)
-look_back_of-holds (BinarySlicer b) is = sync _ (λ p. refl) (λ right f reached. binary_slicer-settles right f reached b.makes.item b.makes.threshold)
-look_back_of-holds (UlawEncode b) is = sync _ (λ p. refl) (λ right f reached. ulaw_encode-settles right f reached b.makes.item)
-look_back_of-holds (AlawEncode b) is = sync _ (λ p. refl) (λ right f reached. alaw_encode-settles right f reached b.makes.item)
-look_back_of-holds (MovingSum b) is = past _ (b.length - 1) 1 (λ p. refl) (λ right f reached. moving_sum-settles b.item b.length right f (λ p. let r = reached p in omega arith))
-look_back_of-holds (Fir b) is = past _ (length b.taps.items - 1) b.rate (λ p. refl) (fir-settles b.item b.taps.items b.rate b.shift)
-look_back_of-holds (InterpFir b) is = past _ (branch_taps b.taps.items b.rate - 1) 1 (λ p. refl) (λ right f reached. interp_fir-settles b.item b.taps.items b.rate b.shift right f b.some (λ p. let r = reached p in omega arith))
-look_back_of-holds (KeepOneInN b) is = paced _ b.n (λ p. refl) (λ right f reached. keep_one_in_n-settles b.item b.n right f b.least reached)
-look_back_of-holds (KeepMInN b) is = paced _ b.n (λ p. refl) (λ right f reached. keep_m_in_n-settles b.item b.m b.n b.offset right f b.kept.some reached)
+look_back_of-holds (BinarySlicer b) is = sync _ (λ p. refl) (λ right f reached. binary_slicer-settles right f reached
+    b.makes.item b.makes.threshold)
+look_back_of-holds (UlawEncode b) is = sync _ (λ p. refl) (λ right f reached. ulaw_encode-settles right f reached
+    b.makes.item)
+look_back_of-holds (AlawEncode b) is = sync _ (λ p. refl) (λ right f reached. alaw_encode-settles right f reached
+    b.makes.item)
+look_back_of-holds (MovingSum b) is = past _ (b.length - 1) 1 (λ p. refl)
+    (λ right f reached. moving_sum-settles b.item b.length right f (λ p. let r = reached p in omega arith))
+look_back_of-holds (Fir b) is = past _ (length b.taps.items - 1) b.rate (λ p. refl)
+    (fir-settles b.item b.taps.items b.rate b.shift)
+look_back_of-holds (InterpFir b) is = past _ (branch_taps b.taps.items b.rate - 1) 1 (λ p. refl)
+    (λ right f reached. interp_fir-settles b.item b.taps.items b.rate b.shift right f b.some
+    (λ p. let r = reached p in omega arith))
+look_back_of-holds (KeepOneInN b) is = paced _ b.n (λ p. refl) (λ right f reached. keep_one_in_n-settles b.item b.n
+    right f b.least reached)
+look_back_of-holds (KeepMInN b) is = paced _ b.n (λ p. refl) (λ right f reached. keep_m_in_n-settles b.item b.m b.n
+    b.offset right f b.kept.some reached)
 look_back_of-holds (Integrate b) is = paced _ b.n (λ p. refl) (integrate-settles b.item b.n)
 look_back_of-holds (FrameMinimum b) is = paced _ b.n (λ p. refl) (frame_minimum-settles b.item b.n)
 look_back_of-holds (FrameMaximum b) is = paced _ b.n (λ p. refl) (frame_maximum-settles b.item b.n)
 look_back_of-holds (Argmax b) is = paced _ b.n (λ p. refl) (argmax-settles b.item b.n)
-look_back_of-holds (Repeat b) is = sync _ (λ p. refl) (λ right f reached. repeat-settles b.item b.n right f b.least reached)
-look_back_of-holds (Insert b) is = paced _ (b.period - length b.values.items) (λ p. refl) (λ right f reached. insert-settles b.item b.values.items b.period b.offset right f b.is.above b.is.whole reached)
+look_back_of-holds (Repeat b) is = sync _ (λ p. refl) (λ right f reached. repeat-settles b.item b.n right f b.least
+    reached)
+look_back_of-holds (Insert b) is = paced _ (b.period - length b.values.items) (λ p. refl)
+    (λ right f reached. insert-settles b.item b.values.items b.period b.offset right f b.is.above b.is.whole reached)
 look_back_of-holds (Pattern b) is = absurd (cc)
 look_back_of-holds (Counter b) is = absurd (cc)
-look_back_of-holds (Permute b) is = paced _ (length b.order.items) (λ p. refl) (λ right f reached. permute-settles b.item b.order.items right f b.is.some reached)
-look_back_of-holds (Interleave b) is = sync _ (λ p. refl) (λ right f reached. interleave-settles b.item b.ports.value right f b.ports.some reached)
+look_back_of-holds (Permute b) is = paced _ (length b.order.items) (λ p. refl)
+    (λ right f reached. permute-settles b.item b.order.items right f b.is.some reached)
+look_back_of-holds (Interleave b) is = sync _ (λ p. refl) (λ right f reached. interleave-settles b.item b.ports.value
+    right f b.ports.some reached)
 look_back_of-holds (Deinterleave b) is = paced _ b.ports.value (λ p. refl) (deinterleave-settles b.item b.ports.value)
-look_back_of-holds (StreamMux b) is = at_paces _ (λ right f reached. stream_mux-settles b.item (lengths_of b) right f (some_in_round (lengths_of b) b.is_mux.some b.is_mux.each) reached)
+look_back_of-holds (StreamMux b) is = at_paces _ (λ right f reached. stream_mux-settles b.item (lengths_of b) right f
+    (some_in_round (lengths_of b) b.is_mux.some b.is_mux.each) reached)
 look_back_of-holds (Head b) is = λ c. record {
   role = refl;
   taken = λ p k. refl;
   given = λ k. refl;
   place = λ p s. refl;
-  resumes = λ work inputs right f far. head-resumes b.item b.n c right f (λ p. let r = reached _ _ _ inputs right f far p in omega arith);
+  resumes = λ work inputs right f far. head-resumes b.item b.n c right f
+      (λ p. let r = reached _ _ _ inputs right f far p in omega arith);
 }
 look_back_of-holds (SkipHead b) is =
-    settled_by _ (look_back_of (SkipHead b)) (λ work inputs right f far. skiphead-settles b.item b.n right f far.past (λ p. let r = reached _ _ _ inputs right f far p in omega arith))
+    settled_by _ (look_back_of (SkipHead b)) (λ work inputs right f far. skiphead-settles b.item b.n right f far.past
+    (λ p. let r = reached _ _ _ inputs right f far p in omega arith))
 look_back_of-holds (Delay b) is =
-    settled_by _ (look_back_of (Delay b)) (λ work inputs right f far. delay-settles b.item b.n right f (λ p. let r = behind _ _ _ inputs right f far 1 (λ p. refl) p in omega arith))
+    settled_by _ (look_back_of (Delay b)) (λ work inputs right f far. delay-settles b.item b.n right f
+    (λ p. let r = behind _ _ _ inputs right f far 1 (λ p. refl) p in omega arith))
 look_back_of-holds (PackKBits b) is = paced _ b.k (λ p. refl) (pack_k_bits-settles b.k)
-look_back_of-holds (UnpackKBits b) is = sync _ (λ p. refl) (λ right f reached. unpack_k_bits-settles b.k right f b.some reached)
+look_back_of-holds (UnpackKBits b) is = sync _ (λ p. refl) (λ right f reached. unpack_k_bits-settles b.k right f b.some
+    reached)
 look_back_of-holds (RepackBits b) is = repacks b
 look_back_of-holds (PackedToUnpacked b) is = repacks b
 look_back_of-holds (UnpackedToPacked b) is = repacks b
 look_back_of-holds (DiffEncoder b) is = absurd (cc)
-look_back_of-holds (DiffDecoder b) is = past _ 1 1 (λ p. refl) (λ right f reached. diff_decoder-settles b.modulus.value right f (λ p. let r = reached p in omega arith))
+look_back_of-holds (DiffDecoder b) is = past _ 1 1 (λ p. refl) (λ right f reached. diff_decoder-settles b.modulus.value
+    right f (λ p. let r = reached p in omega arith))
 look_back_of-holds (Scrambler b) is = absurd (cc)
-look_back_of-holds (Descrambler b) is = past _ 32 1 (λ p. refl) (λ right f reached. descrambler-settles b.register.bits b.register.mask b.register.init right f (λ p. let r = reached p in let few = b.register.is.bits_most in omega arith))
+look_back_of-holds (Descrambler b) is = past _ 32 1 (λ p. refl) (λ right f reached. descrambler-settles b.register.bits
+    b.register.mask b.register.init right f (λ p. let r = reached p in let few = b.register.is.bits_most in omega
+    arith))
 look_back_of-holds (AdditiveScrambler b) is = λ c. record {
   role = refl;
   taken = λ p k. refl;
   given = λ k. refl;
   place = λ p s. refl;
   resumes = λ work inputs right f far.
-      additive_scrambler-resumes b.register.bits b.register.mask b.register.init c right f (let some = b.register.is.bits_least in omega arith)
+      additive_scrambler-resumes b.register.bits b.register.mask b.register.init c right f
+      (let some = b.register.is.bits_least in omega arith)
       (λ p. let r = reached _ _ _ inputs right f far p in omega arith);
 }
-look_back_of-holds (CorrelateAccessCode b) is = past _ (64 + b.length) 1 (λ p. refl) (λ right f reached. correlate_access_code-settles b.code b.length b.threshold right f (λ p. let r = reached p in omega arith))
-look_back_of-holds (CrcAppend b) is = paced _ b.crc.length (λ p. refl) (λ right f reached. crc_append-settles b.crc.length b.crc.rule right f b.crc.is.some reached)
-look_back_of-holds (CrcCheck b) is = paced _ (b.crc.length + bytes_of b.crc.rule) (λ p. refl) (λ right f reached. crc_check-settles b.crc.length b.crc.rule right f reached)
+look_back_of-holds (CorrelateAccessCode b) is = past _ (64 + b.length) 1 (λ p. refl)
+    (λ right f reached. correlate_access_code-settles b.code b.length b.threshold right f
+    (λ p. let r = reached p in omega arith))
+look_back_of-holds (CrcAppend b) is = paced _ b.crc.length (λ p. refl)
+    (λ right f reached. crc_append-settles b.crc.length b.crc.rule right f b.crc.is.some reached)
+look_back_of-holds (CrcCheck b) is = paced _ (b.crc.length + bytes_of b.crc.rule) (λ p. refl)
+    (λ right f reached. crc_check-settles b.crc.length b.crc.rule right f reached)
 look_back_of-holds (StateMachine b) is = absurd (cc)
 look_back_of-holds (Viterbi b) is =
-    paced _ (b.decoder.steps * b.decoder.outputs) (λ p. refl) (λ right f reached. viterbi-settles b.item (trellis_of b.decoder) right f b.decoder.is reached)
+    paced _ (b.decoder.steps * b.decoder.outputs) (λ p. refl) (λ right f reached. viterbi-settles b.item
+    (trellis_of b.decoder) right f b.decoder.is reached)
 
 -- a block that does not count goes on as it is
 pub counts_of-holds : (k : Kind) → counts_of k ≡ false → (c : ℕ) → later_of k c ≡ meaning_of k

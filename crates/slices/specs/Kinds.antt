@@ -13,7 +13,8 @@ use Rattle.slices.specs.declared.look_back.LookBack.{LookBack}
 use Rattle.slices.specs.declared.look_back.LookBack.TheVariants.{Items, Everything}
 use Rattle.slices.specs.declared.look_back.LookBack.TheVariants as looks
 
--- how far back a block looks, by its kind. Where no comment says why, a firing reads what it takes and nothing before it
+-- how far back a block looks, by its kind. Where no comment says why, a firing reads what it takes and nothing before
+-- it
 abbrev pub look_back_of : Kind → LookBack
 look_back_of (VectorSource b) = Items 0
 look_back_of (VectorSink b) = Items 0
@@ -90,14 +91,15 @@ look_back_of (CrcCheck b) = Items 0
 look_back_of (StateMachine b) = Everything
 look_back_of (Viterbi b) = Items 0
 
--- what a block goes on as behind so many firings: a head has as many fewer items to give, the register of an additive scrambler has gone on by itself, and one that
--- forgets goes on as it is
+-- what a block goes on as behind so many firings: a head has as many fewer items to give, the register of an additive
+-- scrambler has gone on by itself, and one that forgets goes on as it is
 abbrev pub later_of : Kind → ℕ → Meaning
 later_of (Head b) c = head_after b c
 later_of (AdditiveScrambler b) c = scrambler_after b c
 later_of k c = meaning_of k
 
--- what a block gives rests on how many firings came before: a head has fewer items left to give, and an additive scrambler another register
+-- what a block gives rests on how many firings came before: a head has fewer items left to give, and an additive
+-- scrambler another register
 abbrev pub counts_of : Kind → Bool
 counts_of (Head b) = true
 counts_of (AdditiveScrambler b) = true

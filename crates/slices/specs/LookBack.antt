@@ -30,8 +30,8 @@ start_of (Delay n) = 0
 start_of (Skip n) = n
 start_of Everything = 0
 
--- how many items before those that a firing takes have tags that go to what it gives, at a rate of i items for d: places are the nearest, and ties go up, so those
--- of the last d / (2 * i) items of the firing before do
+-- how many items before those that a firing takes have tags that go to what it gives, at a rate of i items for d:
+-- places are the nearest, and ties go up, so those of the last d / (2 * i) items of the firing before do
 abbrev pub nearest_back : Option (ℕ × ℕ) → ℕ
 nearest_back rate = taken_at rate / (2 * given_at rate)
 
@@ -42,29 +42,31 @@ tags_back_of (Delay n) nearest = n
 tags_back_of (Skip n) nearest = 0
 tags_back_of Everything nearest = 0
 
--- how many firings come before those whose tags may be right: where items are left out, one more than give nothing, since their tags go to the first
--- item that is given. No firing of a plan comes later than `MOST_FIRINGS`
+-- how many firings come before those whose tags may be right: where items are left out, one more than give nothing,
+-- since their tags go to the first item that is given. No firing of a plan comes later than `MOST_FIRINGS`
 abbrev pub tags_start_of : LookBack → ℕ
 tags_start_of (Items n) = 0
 tags_start_of (Delay n) = 0
 tags_start_of (Skip n) = min n MOST_FIRINGS + 1
 tags_start_of Everything = 0
 
--- firing f comes not before firing `start`, and with `back` items before those that it takes looks at no item of a used input p before its item `right p`
+-- firing f comes not before firing `start`, and with `back` items before those that it takes looks at no item of a used
+-- input p before its item `right p`
 pub record IsFarEnough (m : Meaning) (start back inputs : ℕ) (right : ℕ → ℕ) (f : ℕ) : Type 0 where
   pub some : 1 ≤ inputs
   pub past : start ≤ f
   pub used : (p : ℕ) → p < inputs → right p + back ≤ taken_at (m.rate p) * f
   pub others : (p : ℕ) → inputs ≤ p → right p ≡ 0
 
--- a block that goes on where m stands after c firings: from each firing on that is far enough it gives what m gives c firings later. It takes, gives and places
--- tags alike, but may end at another firing
+-- a block that goes on where m stands after c firings: from each firing on that is far enough it gives what m gives c
+-- firings later. It takes, gives and places tags alike, but may end at another firing
 pub record GoesOnAs (m : Meaning) (look : LookBack) (c : ℕ) (later : Meaning) : Type 0 where
   pub role : m.role ≡ later.role
   pub taken : (p k : ℕ) → m.taken p k ≡ later.taken p k
   pub given : (k : ℕ) → m.given k ≡ later.given k
   pub place : (p s : ℕ) → m.place p s ≡ later.place p s
-  pub resumes : is_source m.role ≡ false → (inputs : ℕ) (right : ℕ → ℕ) (f : ℕ) → IsFarEnough m (start_of look) (back_of look) inputs right f → Resumes m later c right f
+  pub resumes : is_source m.role ≡ false → (inputs : ℕ) (right : ℕ → ℕ) (f : ℕ)
+      → IsFarEnough m (start_of look) (back_of look) inputs right f → Resumes m later c right f
 
 -- later c goes on where m stands after c firings. Of a block that does not forget nothing is said
 abbrev pub HasLookBack : Meaning → (ℕ → Meaning) → LookBack → Type 0
@@ -73,5 +75,6 @@ HasLookBack m later look = is_forgetful look ≡ true → (c : ℕ) → GoesOnAs
 -- and its tags are right from each firing on that is far enough for them
 abbrev pub HasPlaces : Meaning → LookBack → Type 0
 HasPlaces m look =
-    is_forgetful look ≡ true → is_source m.role ≡ false → (inputs : ℕ) (right : ℕ → ℕ) (f : ℕ) → IsFarEnough m (tags_start_of look) (tags_back_of look (nearest_back (m.rate 0))) inputs right f →
+    is_forgetful look ≡ true → is_source m.role ≡ false → (inputs : ℕ) (right : ℕ → ℕ) (f : ℕ)
+    → IsFarEnough m (tags_start_of look) (tags_back_of look (nearest_back (m.rate 0))) inputs right f →
     Places m right f

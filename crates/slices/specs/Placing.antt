@@ -18,7 +18,8 @@ use Rattle.slices.specs.Kinds.{look_back_of}
 use Rattle.slices.specs.Forgetting.{reached, behind}
 
 -- at a rate of i items for d, what lies before item `right` goes before what is given from firing f on
-before : (d i right f : ℕ) → 1 ≤ d → 1 ≤ i → right + nearest_back (Some (d, i)) ≤ d * f → 2 * right * i + d < 2 * d * (i * f) + 2 * i
+before : (d i right f : ℕ) → 1 ≤ d → 1 ≤ i → right + nearest_back (Some (d, i)) ≤ d * f
+    → 2 * right * i + d < 2 * d * (i * f) + 2 * i
 before d i right f some gives far =
     let h : right + d / (2 * i) ≤ d * f = far in
     let m : i * (right + d / (2 * i)) ≤ i * (d * f) = mul-le-mul_left i h in
@@ -33,7 +34,8 @@ module _ (m : Meaning) (lawful : IsLawful m) (d i : ℕ) (rates : (p : ℕ) → 
 
   nearest-places : (right : ℕ → ℕ) (f : ℕ) → ((p : ℕ) → right p + nearest_back (Some (d, i)) ≤ d * f) → Places m right f
   nearest-places right f far =
-      let shape = shaped-places m.inputs m.outputs 1 m.setting m.own 0 m.word m.out right f d i at.takes_some (λ p. before d i (right p) f at.takes_some at.gives_some (far p)) in
+      let shape = shaped-places m.inputs m.outputs 1 m.setting m.own 0 m.word m.out right f d i at.takes_some
+      (λ p. before d i (right p) f at.takes_some at.gives_some (far p)) in
       record {
         late = shape.late;
         enough = shape.enough;
@@ -51,7 +53,8 @@ module _ (m : Meaning) (lawful : IsLawful m) (d i : ℕ) (rates : (p : ℕ) → 
       }
 
 -- a kind at a rate that places them so
-nearest : (k : Kind) (d i : ℕ) → ((p : ℕ) → (meaning_of k).rate p ≡ Some (d, i)) → ((p s : ℕ) → (meaning_of k).place p s ≡ place_at_rate d i s) → HasPlaces (meaning_of k) (Items 0)
+nearest : (k : Kind) (d i : ℕ) → ((p : ℕ) → (meaning_of k).rate p ≡ Some (d, i))
+    → ((p s : ℕ) → (meaning_of k).place p s ≡ place_at_rate d i s) → HasPlaces (meaning_of k) (Items 0)
 nearest k d i rates places is work inputs right f far =
     let m = meaning_of k in
     nearest-places m (meaning_of-lawful k) d i rates places right f
@@ -108,18 +111,23 @@ look_back_of-places (FrameMinimum b) is = nearest (FrameMinimum b) b.n 1 (λ p. 
 look_back_of-places (FrameMaximum b) is = nearest (FrameMaximum b) b.n 1 (λ p. refl) (λ p s. refl) is
 look_back_of-places (Argmax b) is = nearest (Argmax b) b.n 1 (λ p. refl) (λ p s. refl) is
 look_back_of-places (Repeat b) is = nearest (Repeat b) 1 b.n (λ p. refl) (λ p s. refl) is
-look_back_of-places (Insert b) is = nearest (Insert b) (b.period - length b.values.items) b.period (λ p. refl) (λ p s. refl) is
+look_back_of-places (Insert b) is = nearest (Insert b) (b.period - length b.values.items) b.period (λ p. refl)
+    (λ p s. refl) is
 look_back_of-places (Pattern b) is = absurd (cc)
 look_back_of-places (Counter b) is = absurd (cc)
-look_back_of-places (Permute b) is = nearest (Permute b) (length b.order.items) (length b.order.items) (λ p. refl) (λ p s. refl) is
+look_back_of-places (Permute b) is = nearest (Permute b) (length b.order.items) (length b.order.items) (λ p. refl)
+    (λ p s. refl) is
 look_back_of-places (Interleave b) is = nearest (Interleave b) 1 b.ports.value (λ p. refl) (λ p s. refl) is
 look_back_of-places (Deinterleave b) is = nearest (Deinterleave b) b.ports.value 1 (λ p. refl) (λ p s. refl) is
-look_back_of-places (StreamMux b) is = λ work inputs right f far. stream_mux-places b.item (lengths_of b) right f b.is_mux (reached _ _ _ inputs right f far)
+look_back_of-places (StreamMux b) is = λ work inputs right f far. stream_mux-places b.item (lengths_of b) right f
+    b.is_mux (reached _ _ _ inputs right f far)
 look_back_of-places (Head b) is = nearest (Head b) 1 1 (λ p. refl) (λ p s. kept_at_one s) is
 look_back_of-places (SkipHead b) is =
     λ work inputs right f far.
-    skiphead-places b.item b.n right f (let past = far.past in let most = b.most in omega arith) (λ p. let r = reached _ _ _ inputs right f far p in omega arith)
-look_back_of-places (Delay b) is = λ work inputs right f far. delay-places b.item b.n right f (λ p. let r = behind _ _ _ inputs right f far 1 (λ p. refl) p in omega arith)
+    skiphead-places b.item b.n right f (let past = far.past in let most = b.most in omega arith)
+    (λ p. let r = reached _ _ _ inputs right f far p in omega arith)
+look_back_of-places (Delay b) is = λ work inputs right f far. delay-places b.item b.n right f
+    (λ p. let r = behind _ _ _ inputs right f far 1 (λ p. refl) p in omega arith)
 look_back_of-places (PackKBits b) is = nearest (PackKBits b) b.k 1 (λ p. refl) (λ p s. refl) is
 look_back_of-places (UnpackKBits b) is = nearest (UnpackKBits b) 1 b.k (λ p. refl) (λ p s. refl) is
 look_back_of-places (RepackBits b) is = nearest (RepackBits b) _ _ (λ p. refl) (λ p s. refl) is
@@ -131,7 +139,10 @@ look_back_of-places (Scrambler b) is = absurd (cc)
 look_back_of-places (Descrambler b) is = nearest (Descrambler b) 1 1 (λ p. refl) (λ p s. refl) is
 look_back_of-places (AdditiveScrambler b) is = nearest (AdditiveScrambler b) 1 1 (λ p. refl) (λ p s. refl) is
 look_back_of-places (CorrelateAccessCode b) is = nearest (CorrelateAccessCode b) 1 1 (λ p. refl) (λ p s. refl) is
-look_back_of-places (CrcAppend b) is = nearest (CrcAppend b) b.crc.length (b.crc.length + bytes_of b.crc.rule) (λ p. refl) (λ p s. refl) is
-look_back_of-places (CrcCheck b) is = nearest (CrcCheck b) (b.crc.length + bytes_of b.crc.rule) 1 (λ p. refl) (λ p s. refl) is
+look_back_of-places (CrcAppend b) is = nearest (CrcAppend b) b.crc.length (b.crc.length + bytes_of b.crc.rule)
+    (λ p. refl) (λ p s. refl) is
+look_back_of-places (CrcCheck b) is = nearest (CrcCheck b) (b.crc.length + bytes_of b.crc.rule) 1 (λ p. refl)
+    (λ p s. refl) is
 look_back_of-places (StateMachine b) is = absurd (cc)
-look_back_of-places (Viterbi b) is = nearest (Viterbi b) (b.decoder.steps * b.decoder.outputs) b.decoder.steps (λ p. refl) (λ p s. refl) is
+look_back_of-places (Viterbi b) is = nearest (Viterbi b) (b.decoder.steps * b.decoder.outputs) b.decoder.steps
+    (λ p. refl) (λ p s. refl) is

@@ -60,17 +60,30 @@ source_of q w b = record { block = record { 0 = b }; period = slice_index q b; o
 
 -- a sink takes q items an iteration; it has `count_after` of them after w iterations, and a slice drops these
 abbrev pub sink_of : Network → List ℕ → (ℕ → ℕ) → (ℕ → ℕ) → ℕ → ℕ → Sink
-sink_of net q f g w b = record { block = record { 0 = b }; period = slice_index q b; settled = both_right net f g b; drop = count_after net q b w }
+sink_of net q f g w b = record {
+  block = record { 0 = b };
+  period = slice_index q b;
+  settled = both_right net f g b;
+  drop = count_after net q b w;
+}
 
 -- the same, from counts after some iterations and so many more
 abbrev pub sink_at : Network → List ℕ → List ℕ → List ℕ → List ℕ → ℕ → ℕ → Sink
 sink_at net q first tagged there more b =
-    record { block = record { 0 = b }; period = slice_index q b; settled = both_right net (firing_at first) (firing_at tagged) b; drop = slice_index there b + more * slice_index q b }
+    record {
+      block = record { 0 = b };
+      period = slice_index q b;
+      settled = both_right net (firing_at first)
+          (firing_at tagged) b;
+      drop = slice_index there b + more * slice_index q b;
+    }
 
--- after j iterations all skips are past, and each sink has got what is not right yet: items by firings f, tags by firings g
+-- after j iterations all skips are past, and each sink has got what is not right yet: items by firings f, tags by
+-- firings g
 pub record IsEnoughOverlap (net : Network) (q : List ℕ) (f g : ℕ → ℕ) (j : ℕ) : Type 0 where
   pub past : is_past_skips net q j ≡ true
-  pub sinks : (b : ℕ) → b < length net.nodes → is_keeper (role_at net b) ≡ true → both_right net f g b ≤ count_after net q b j
+  pub sinks : (b : ℕ) → b < length net.nodes → is_keeper (role_at net b) ≡ true
+      → both_right net f g b ≤ count_after net q b j
 
 -- from firings g on tags are right: each block places them so, and what comes to a sink is right
 pub record AreTagged (net : Network) (g : ℕ → ℕ) : Type 0 where
@@ -100,9 +113,11 @@ firings_in net q k b = (node_at net b).multiple * (k * slice_index q b)
 -- the first so many blocks of a list go on where those of a network stand after k iterations
 pub record AreLater (net : Network) (q : List ℕ) (ls : List LookBack) (k count : ℕ) (nodes : List Node) : Type 0 where
   pub long : length nodes ≡ count
-  pub each : (b : ℕ) → b < count → IsLaterNode (node_at net b) (look_at ls b) (firings_in net q k b) (slice_index_or nodes b no_node)
+  pub each : (b : ℕ) → b < count → IsLaterNode (node_at net b) (look_at ls b) (firings_in net q k b)
+      (slice_index_or nodes b no_node)
 
--- a later network: with the same connections, and all its blocks go on where those of the first stand after k iterations
+-- a later network: with the same connections, and all its blocks go on where those of the first stand after k
+-- iterations
 pub record HasGoneOn (net : Network) (q : List ℕ) (ls : List LookBack) (k : ℕ) (later : Network) : Type 0 where
   pub can : CanRun later
   pub connections : net.connections ≡ later.connections
@@ -122,7 +137,8 @@ pub record IsPlan (net : Network) (q : List ℕ) (ls : List LookBack) (plan : Pl
   pub sinks : plan.sinks.items ≡ map (sink_of net q firing tagged plan.overlap) (keepers_of net)
 
 -- the plan that is asked for: its firings are the least that are far enough, for items and for tags
-pub record IsLeastPlan (net : Network) (q : List ℕ) (ls : List LookBack) (for_items for_tags : List Reach) (asked : Asks) (plan : Plan) : Type 0 where
+pub record IsLeastPlan (net : Network) (q : List ℕ) (ls : List LookBack) (for_items for_tags : List Reach)
+    (asked : Asks) (plan : Plan) : Type 0 where
   pub is : IsPlan net q ls plan
   pub asks : plan.asks ≡ asked
   pub forget : AllForget ls
@@ -133,7 +149,8 @@ pub record IsLeastPlan (net : Network) (q : List ℕ) (ls : List LookBack) (for_
 abbrev pub IsPlanned : Network → List ℕ → List LookBack → List Reach → List Reach → Asks → Planned → Type 0
 IsPlanned net q ls items tags asked (answers.Plan p) = IsLeastPlan net q ls items tags asked p
 IsPlanned net q ls items tags asked (answers.Remembers b) = IsFirstToRemember ls b.0
-IsPlanned net q ls items tags asked answers.TooLate = AreLate net items ⊎ ((asked ≡ asking.ItemsAndTags) × AreLate net tags)
+IsPlanned net q ls items tags asked answers.TooLate = AreLate net items
+    ⊎ ((asked ≡ asking.ItemsAndTags) × AreLate net tags)
 
 -- firings from which items and tags are right, and how many items each sink has got
 pub record CanWait (net : Network) (q first tagged there : List ℕ) : Type 0 where
@@ -148,7 +165,8 @@ pub record CanWait (net : Network) (q first tagged there : List ℕ) : Type 0 wh
 -- after i more iterations each sink has got what is not right yet
 abbrev pub IsEnoughMore : Network → List ℕ → List ℕ → List ℕ → List ℕ → ℕ → Type 0
 IsEnoughMore net q first tagged there i =
-    (b : ℕ) → b < length net.nodes → is_keeper (role_at net b) ≡ true → both_right net (firing_at first) (firing_at tagged) b ≤ slice_index there b + i * slice_index q b
+    (b : ℕ) → b < length net.nodes → is_keeper (role_at net b) ≡ true
+    → both_right net (firing_at first) (firing_at tagged) b ≤ slice_index there b + i * slice_index q b
 
 -- the least such number
 pub record HasWaited (net : Network) (q first tagged there : List ℕ) (more : ℕ) : Type 0 where

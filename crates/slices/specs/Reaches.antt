@@ -31,7 +31,8 @@ tags_reach false look nearest = record { start = 0; back = None }
 -- of a block of a graph
 abbrev pub reach_of : {B : Type 0} → (B → Meaning) → (B → LookBack) → Content → Entry B → Reach
 reach_of meaning look Items e = items_reach (look e.block)
-reach_of meaning look Tags e = tags_reach (heeds (meaning e.block).role e.options.policy) (look e.block) (nearest_back ((meaning e.block).rate 0))
+reach_of meaning look Tags e = tags_reach (heeds (meaning e.block).role e.options.policy) (look e.block)
+    (nearest_back ((meaning e.block).rate 0))
 
 -- and of all its blocks
 abbrev pub reaches_of : {B : Type 0} → (B → Meaning) → (B → LookBack) → Content → Flowgraph B → List Reach

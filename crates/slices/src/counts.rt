@@ -14,7 +14,8 @@ use std::alloc::{AllocError, Global};
 /// How many firings of its reader a connection allows if its writer has fired so often.
 fn allowed<B: Block>(graph: &Valid<B>, connection: Connection, firings: u64) -> u64
     requires { IsCarried (net_of B.meaning graph.now) (connection_of connection) firings }
-    ensures value { result ≡ model.allowed (node_at (net_of B.meaning graph.now) connection.to.0) connection.in_port (given_by (node_at (net_of B.meaning graph.now) connection.from.0) firings) }
+    ensures value { result ≡ model.allowed (node_at (net_of B.meaning graph.now) connection.to.0) connection.in_port
+        (given_by (node_at (net_of B.meaning graph.now) connection.from.0) firings) }
 {
     let items = graph.given(connection.from, firings);
     let multiple = u64::from(graph.multiple(connection.to));

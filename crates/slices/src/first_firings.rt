@@ -69,8 +69,10 @@ fn needed<B: Block>(
     requires reaches { length reaches.now ≡ length graph.now.blocks }
     requires can { CanRise (net_of B.meaning graph.now) first.now }
     ensures most { result ≤ MOST_FIRINGS + 1 }
-    ensures least { (x : ℕ) → IsEnough (net_of B.meaning graph.now) reaches.now (firing_at first.now) (connection_of connection) x → result ≤ x }
-    ensures enough { (x : ℕ) → x ≤ MOST_FIRINGS → result ≤ x → IsEnough (net_of B.meaning graph.now) reaches.now (firing_at first.now) (connection_of connection) x }
+    ensures least { (x : ℕ) → IsEnough (net_of B.meaning graph.now) reaches.now (firing_at first.now)
+        (connection_of connection) x → result ≤ x }
+    ensures enough { (x : ℕ) → x ≤ MOST_FIRINGS → result ≤ x → IsEnough (net_of B.meaning graph.now) reaches.now
+        (firing_at first.now) (connection_of connection) x }
 {
     match reaches[connection.to.0 as usize].back {
         Some(back) => first_behind(

@@ -14,7 +14,8 @@ use std::alloc::Global;
 /// The first block whose items depend on how many firings came before. If there is none, a graph of blocks that forget
 /// is its own later graph.
 pub fn first_to_count<B: Forgets>(graph: &Valid<B>) -> Option<BlockId>
-    ensures first { MatchOption result (NoneCounts (counting_of B.counting graph.now)) (λ block. IsFirstToCount (counting_of B.counting graph.now) block.0) }
+    ensures first { MatchOption result (NoneCounts (counting_of B.counting graph.now))
+        (λ block. IsFirstToCount (counting_of B.counting graph.now) block.0) }
     ensures own { IfNone result (AllForget (looks_of B.looks_back graph.now) → (q : List ℕ) (k : ℕ)
         → HasGoneOn (net_of B.meaning graph.now) q (looks_of B.looks_back graph.now) k (net_of B.meaning graph.now)) }
 {
@@ -36,7 +37,8 @@ fn firings_in<B: Forgets>(
     iterations: u64,
 ) -> Option<u64>
     requires { block.0 < length graph.now.blocks }
-    ensures { MatchOption result ⊤ (λ count. count ≡ firings_in (net_of B.meaning graph.now) firings.now iterations block.0) }
+    ensures { MatchOption result ⊤ (λ count. count ≡ firings_in (net_of B.meaning graph.now) firings.now iterations
+        block.0) }
 {
     let block_firings = *firings.get(block.0 as usize)?;
     let all = iterations.checked_mul(u64::from(block_firings))?;
@@ -60,7 +62,8 @@ fn is_like<B: Forgets>(graph: &Valid<B>, block: BlockId, like: &B) -> bool
 /// it, or does not forget.
 fn gone_on<B: Forgets>(graph: &Valid<B>, block: BlockId, like: B, firings: u64) -> Option<B>
     requires { block.0 < length graph.now.blocks }
-    ensures { MatchOption result ⊤ (λ later. GoesOnAs (node_at (net_of B.meaning graph.now) block.0).meaning (look_at (looks_of B.looks_back graph.now) block.0) firings (B.meaning later)) }
+    ensures { MatchOption result ⊤ (λ later. GoesOnAs (node_at (net_of B.meaning graph.now) block.0).meaning
+        (look_at (looks_of B.looks_back graph.now) block.0) firings (B.meaning later)) }
 {
     if is_like(graph, block, &like) {
         if like.look_back().is_forgetful() {
@@ -80,7 +83,8 @@ fn all_gone_on<B: Forgets>(
     blocks: Vec<B>,
 ) -> Result<Option<Graph<B>>, GraphFault>
     ensures { IfOk result (λ found. MatchOption found ⊤ (λ made. (made.connections ≡ [])
-        × AreLater (net_of B.meaning graph.now) firings.now (looks_of B.looks_back graph.now) iterations (length graph.now.blocks) (net_of B.meaning made).nodes)) }
+        × AreLater (net_of B.meaning graph.now) firings.now (looks_of B.looks_back graph.now) iterations
+        (length graph.now.blocks) (net_of B.meaning made).nodes)) }
 {
     let mut made = Graph::new(alloc);
     let mut likes = blocks.into_iter();
@@ -129,7 +133,8 @@ pub fn later_graph<B: Forgets>(
     blocks: Vec<B>,
 ) -> Result<Option<Valid<B>>, GraphFault>
     ensures { IfOk result (λ found. MatchOption found ⊤ (λ later.
-        HasGoneOn (net_of B.meaning graph.now) firings.now (looks_of B.looks_back graph.now) iterations (net_of B.meaning later))) }
+        HasGoneOn (net_of B.meaning graph.now) firings.now (looks_of B.looks_back graph.now) iterations
+        (net_of B.meaning later))) }
 {
     let Some(made) = all_gone_on(alloc, graph, firings, iterations, blocks)? else {
         return Ok(None);

@@ -34,7 +34,8 @@ fn is_past(shift: Shift, firings: u64) -> bool
 /// Whether each block that skips its first items has skipped them.
 fn are_past<B: Block>(graph: &Valid<B>, counts: &[u64]) -> bool
     requires { length counts.now ≡ length (net_of B.meaning graph.now).nodes }
-    ensures { (q : List ℕ) (j : ℕ) → AreCounted (net_of B.meaning graph.now) q j counts.now → result ≡ is_past_skips (net_of B.meaning graph.now) q j }
+    ensures { (q : List ℕ) (j : ℕ) → AreCounted (net_of B.meaning graph.now) q j counts.now → result
+        ≡ is_past_skips (net_of B.meaning graph.now) q j }
 {
     for block in 0..graph.len() {
         if !is_past(graph.block(BlockId(block as u32)).shift(), counts[block]) {

@@ -78,7 +78,8 @@ pub enum Planned {
 
 /// The first block that does not forget.
 fn first_to_remember<B: Forgets>(graph: &Valid<B>) -> Option<BlockId>
-    ensures { MatchOption result (AllForget (looks_of B.looks_back graph.now)) (λ block. IsFirstToRemember (looks_of B.looks_back graph.now) block.0) }
+    ensures { MatchOption result (AllForget (looks_of B.looks_back graph.now))
+        (λ block. IsFirstToRemember (looks_of B.looks_back graph.now) block.0) }
 {
     for block in 0..graph.len() {
         let id = BlockId(block as u32);
@@ -98,7 +99,8 @@ fn sources<B: Forgets>(
 ) -> Result<Vec<Source>, AllocError>
     requires can { CanCut (net_of B.meaning graph.now) firings.now }
     requires few { overlap ≤ 2 ^ 42 }
-    ensures { IfOk result (λ v. v.items ≡ map (source_of firings.now overlap) (sources_of (net_of B.meaning graph.now))) }
+    ensures { IfOk result (λ v. v.items ≡ map (source_of firings.now overlap)
+        (sources_of (net_of B.meaning graph.now))) }
 {
     let mut sources = Vec::new(alloc);
     for block in 0..graph.len() {
@@ -127,7 +129,8 @@ fn sinks<B: Forgets>(
 ) -> Result<Vec<Sink>, AllocError>
     requires can { CanWait (net_of B.meaning graph.now) firings.now first.now tagged.now there.now }
     requires few { more ≤ 2 ^ 41 }
-    ensures { IfOk result (λ v. v.items ≡ map (sink_at (net_of B.meaning graph.now) firings.now first.now tagged.now there.now more) (keepers_of (net_of B.meaning graph.now))) }
+    ensures { IfOk result (λ v. v.items ≡ map (sink_at (net_of B.meaning graph.now) firings.now first.now tagged.now
+        there.now more) (keepers_of (net_of B.meaning graph.now))) }
 {
     let mut sinks = Vec::new(alloc);
     for block in 0..graph.len() {
@@ -158,9 +161,13 @@ fn made<B: Forgets>(
     requires order { AreWithin (length graph.now.blocks) order.now }
     requires can { CanCut (net_of B.meaning graph.now) firings.now }
     requires forget { AllForget (looks_of B.looks_back graph.now) }
-    requires first { AreFirst (net_of B.meaning graph.now) (reaches_of B.meaning B.looks_back content.Items graph.now) first.now }
-    requires tagged { AreAsked (net_of B.meaning graph.now) (reaches_of B.meaning B.looks_back content.Tags graph.now) asks first.now tagged.now }
-    ensures { IfOk result (IsLeastPlan (net_of B.meaning graph.now) firings.now (looks_of B.looks_back graph.now) (reaches_of B.meaning B.looks_back content.Items graph.now) (reaches_of B.meaning B.looks_back content.Tags graph.now) asks) }
+    requires first { AreFirst (net_of B.meaning graph.now) (reaches_of B.meaning B.looks_back content.Items graph.now)
+        first.now }
+    requires tagged { AreAsked (net_of B.meaning graph.now) (reaches_of B.meaning B.looks_back content.Tags graph.now)
+        asks first.now tagged.now }
+    ensures { IfOk result (IsLeastPlan (net_of B.meaning graph.now) firings.now (looks_of B.looks_back graph.now)
+        (reaches_of B.meaning B.looks_back content.Items graph.now) (reaches_of B.meaning B.looks_back content.Tags
+        graph.now) asks) }
 {
     let past = first_past(alloc, graph, order, firings)?;
     let more = longest_wait(graph, firings, first, tagged, &past.counts);
@@ -181,8 +188,10 @@ fn first_for<B: Forgets>(
     content: Content,
 ) -> Result<Option<Vec<u64>>, AllocError>
     requires { AreWithin (length graph.now.blocks) order.now }
-    ensures { IfOk result (λ found. MatchOption found (AreLate (net_of B.meaning graph.now) (reaches_of B.meaning B.looks_back content graph.now))
-        (λ first. AreFirst (net_of B.meaning graph.now) (reaches_of B.meaning B.looks_back content graph.now) first.items)) }
+    ensures { IfOk result (λ found. MatchOption found (AreLate (net_of B.meaning graph.now)
+        (reaches_of B.meaning B.looks_back content graph.now))
+        (λ first. AreFirst (net_of B.meaning graph.now) (reaches_of B.meaning B.looks_back content graph.now)
+        first.items)) }
 {
     let reaches = reaches(alloc, graph, content)?;
     first_firings(alloc, graph, &reaches, order)
@@ -196,8 +205,10 @@ pub fn plan_slices<B: Forgets>(
     asks: Asks,
 ) -> Result<Planned, AllocError>
     requires { AreRates (net_of B.meaning graph.now) (Balanced rates.now) }
-    ensures { IfOk result (IsPlanned (net_of B.meaning graph.now) rates.now.firings.items (looks_of B.looks_back graph.now)
-        (reaches_of B.meaning B.looks_back content.Items graph.now) (reaches_of B.meaning B.looks_back content.Tags graph.now) asks) }
+    ensures { IfOk result (IsPlanned (net_of B.meaning graph.now) rates.now.firings.items
+        (looks_of B.looks_back graph.now)
+        (reaches_of B.meaning B.looks_back content.Items graph.now) (reaches_of B.meaning B.looks_back content.Tags
+        graph.now) asks) }
 {
     graph.recall();
     if let Some(block) = first_to_remember(graph) {

@@ -42,7 +42,8 @@ pub fn look_at<B: Forgets>(graph: &Valid<B>, block: BlockId) -> LookBack
 /// them.
 fn heeds<B: Block>(graph: &Valid<B>, block: BlockId) -> bool
     requires { block.0 < length graph.now.blocks }
-    ensures { result ≡ heeds (role_at (net_of B.meaning graph.now) block.0) (node_at (net_of B.meaning graph.now) block.0).policy }
+    ensures { result ≡ heeds (role_at (net_of B.meaning graph.now) block.0)
+        (node_at (net_of B.meaning graph.now) block.0).policy }
 {
     match graph.options(block).policy {
         Policy::None => graph.is_keeper(block),

@@ -25,7 +25,8 @@ fn last_within(sink: &Sink, overlap: u64, items: u64) -> u64
 // has.
 fn first_with(sink: &Sink, overlap: u64, items: u64) -> u64
     ensures behind { overlap ≤ result }
-    ensures first { (j : ℕ) → overlap ≤ j → j ≤ 18446744073709551615 → items ≤ got_after overlap sink.now j → result ≤ j }
+    ensures first { (j : ℕ) → overlap ≤ j → j ≤ 18446744073709551615 → items ≤ got_after overlap sink.now j
+        → result ≤ j }
     ensures with { (j : ℕ) → result ≤ j → result < 18446744073709551615 → items ≤ got_after overlap sink.now j }
 {
     let lacks = items.saturating_sub(sink.drop);

@@ -13,7 +13,8 @@ pub record HasPorts (net : Network) (c : Connection) : Type 0 where
   pub output : c.out_port < (node_at net c.from).meaning.outputs.most
   pub input : c.in_port < (node_at net c.to).meaning.inputs.most
 
--- each block keeps the laws, connections form no loop and join ports that there are, each input has one writer, and used ports have no gap
+-- each block keeps the laws, connections form no loop and join ports that there are, each input has one writer, and
+-- used ports have no gap
 pub record CanRun (net : Network) : Type 0 where
   pub sound : (b : ℕ) → IsSound (node_at net b)
   -- one firing is one base firing of a block without a rate, of one with a limit, and of a source or sink

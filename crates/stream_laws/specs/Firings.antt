@@ -1,4 +1,5 @@
--- How often a block fires, and how many more firings fit, in closed form: the definitions search for these numbers, which code cannot.
+-- How often a block fires, and how many more firings fit, in closed form: the definitions search for these numbers,
+-- which code cannot.
 use Rattle.std.specs.Prelude.{ℕ, suc, ◌+◌, ◌-◌, ◌≡◌, min, List, [], ◌∷◌, map, Option, Some, None, if◌then◌else◌}
 use Rattle.stream_model.specs.Network.{Node, IsSound, fires}
 use Rattle.stream_model.specs.Firings.{allowed, fitting}
@@ -12,7 +13,8 @@ items_allow n p (count ∷ counts) k = min (allowed n p count) (items_allow n (s
 -- the least of k and of what fits for each live reader of an output
 abbrev pub readers_allow : Node → ℕ → List ReaderCounts → ℕ → ℕ
 readers_allow n capacity [] k = k
-readers_allow n capacity (r ∷ rs) k = if r.done then readers_allow n capacity rs k else min (fitting n (r.taken + capacity)) (readers_allow n capacity rs k)
+readers_allow n capacity (r ∷ rs) k = if r.done then readers_allow n capacity rs k else min
+    (fitting n (r.taken + capacity)) (readers_allow n capacity rs k)
 
 -- and of what fits on each output
 abbrev pub room_allows : Node → List OutputCounts → ℕ → ℕ
@@ -29,7 +31,8 @@ fires_allowed n count counts = limit_allows n.meaning.limit (items_allow n 1 cou
 
 -- a claim gets what is left of the firings that items, room and limit allow
 abbrev pub most_allowed : Node → Counts → ℕ → ℕ
-most_allowed n c max = limit_allows n.meaning.limit (room_allows n c.outputs (items_allow n 0 (map (λ (i : InputCounts). i.written) c.inputs) (c.firings + max))) - c.firings
+most_allowed n c max = limit_allows n.meaning.limit (room_allows n c.outputs
+    (items_allow n 0 (map (λ (i : InputCounts). i.written) c.inputs) (c.firings + max))) - c.firings
 
 pub record HasClosedForms (n : Node) : Type 0 where
   pub fires_is : (count : ℕ) (counts : List ℕ) → fires n (count ∷ counts) ≡ fires_allowed n count counts

@@ -12,8 +12,10 @@ PuttingKeepsOrder = (h : Held) (ts : List Held) → IsRising ts → IsRising (pu
 
 -- in force is what is in force where the setting comes last
 abbrev pub PuttingReadsAsLast : Type 0
-PuttingReadsAsLast = (own : Value) (h : Held) (ts : List Held) → IsRising ts → (a : ℕ) → setting_at own (put_setting h ts) a ≡ setting_at own (ts ++ h ∷ []) a
+PuttingReadsAsLast = (own : Value) (h : Held) (ts : List Held) → IsRising ts → (a : ℕ)
+    → setting_at own (put_setting h ts) a ≡ setting_at own (ts ++ h ∷ []) a
 
 -- so in force after any calls is what the list of all of them puts in force
 abbrev pub CallsReadAsTheirList : Type 0
-CallsReadAsTheirList = (own : Value) (calls : List Held) (a : ℕ) → setting_at own (settings_after calls) a ≡ setting_at own calls a
+CallsReadAsTheirList = (own : Value) (calls : List Held) (a : ℕ) → setting_at own (settings_after calls) a
+    ≡ setting_at own calls a

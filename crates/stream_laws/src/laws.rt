@@ -7,7 +7,8 @@ ghost use Rattle.stream_laws.specs.Past.{WhatIsPastStays, WhatComesLaterDisturbs
 ghost use Rattle.stream_laws.specs.Putting.{PuttingKeepsOrder, PuttingReadsAsLast, CallsReadAsTheirList};
 ghost use Rattle.stream_laws.specs.Tags.{TagsUnfold, NoTagIsLate};
 
-/// In a network whose connections form no loop, each stream is its block's equation on the streams that enter the block.
+/// In a network whose connections form no loop, each stream is its block's equation on the streams that enter the
+/// block.
 pub fn streams_solve_their_equations()
     ensures { StreamsUnfold }
 {}
@@ -22,18 +23,20 @@ pub fn cuts_do_not_matter()
     ensures { CutsDoNotMatter }
 {}
 
-/// What a block is given for its firings, and gives by them, stays where streams and settings stay as far as they take them.
+/// What a block is given for its firings, and gives by them, stays where streams and settings stay as far as they take
+/// them.
 pub fn firings_stay()
     ensures { FiringsStay }
 {}
 
-/// Feeding only appends: each output's items of before are a beginning of those of after, and its tags of before are those of
-/// after on the items of before.
+/// Feeding only appends: each output's items of before are a beginning of those of after, and its tags of before are
+/// those of after on the items of before.
 pub fn feeding_appends()
     ensures { FeedingAppends }
 {}
 
-/// What is handed the same as far as the first firings of each block take it has streams and tags that agree as far as these give.
+/// What is handed the same as far as the first firings of each block take it has streams and tags that agree as far as
+/// these give.
 pub fn what_is_past_stays()
     ensures { WhatIsPastStays }
 {}
@@ -43,8 +46,8 @@ pub fn what_comes_later_disturbs_nothing()
     ensures { WhatComesLaterDisturbsNothing }
 {}
 
-/// What firings bring later lies behind all items that were given before, so a list of tags that is kept in order as they come is
-/// the output's, doubles kept.
+/// What firings bring later lies behind all items that were given before, so a list of tags that is kept in order as
+/// they come is the output's, doubles kept.
 pub fn no_tag_is_late()
     ensures { NoTagIsLate }
 {}
@@ -54,7 +57,8 @@ pub fn closed_forms_are_right()
     ensures { ClosedFormsAreRight }
 {}
 
-/// Settings that are kept by their items, one of each, read as the list of the calls that made them: each call's setting as if it came last.
+/// Settings that are kept by their items, one of each, read as the list of the calls that made them: each call's
+/// setting as if it came last.
 pub fn settings_read_as_their_calls()
     ensures order { PuttingKeepsOrder }
     ensures last { PuttingReadsAsLast }

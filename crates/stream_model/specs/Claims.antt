@@ -1,4 +1,5 @@
--- What a claim decides, from the counts of a block and its neighbours alone (own): no item, tag or setting plays a part.
+-- What a claim decides, from the counts of a block and its neighbours alone (own): no item, tag or setting plays a
+-- part.
 use Rattle.std.specs.Prelude.{ℕ, zero, suc, ◌+◌, List, [], ◌∷◌, map, Option, Some, None, Bool, false, ◌&&◌, ◌||◌, not, nat_le, nat_lt, if◌then◌else◌, length}
 use Rattle.std.specs.List.{list_all}
 use Rattle.stream_model.specs.Lists.{greatest}
@@ -84,8 +85,8 @@ abbrev pub lacks_room : Node → ℕ → ℕ → List OutputCounts → Option �
 lacks_room n k p [] = None
 lacks_room n k p (o ∷ os) = if leaves_room n k o then lacks_room n k (suc p) os else Some p
 
--- what a block waits for: the lowest input that lacks the items of one firing, else the lowest output without room for one.
--- Where neither lacks, at least one firing fits: so a claim of at most 0 is the one that comes to the last case
+-- what a block waits for: the lowest input that lacks the items of one firing, else the lowest output without room for
+-- one. Where neither lacks, at least one firing fits: so a claim of at most 0 is the one that comes to the last case
 abbrev pub waits_for : Option ℕ → Option ℕ → Decision
 waits_for (Some p) q = LacksItems p
 waits_for None (Some q) = LacksRoom q

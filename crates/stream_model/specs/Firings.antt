@@ -20,8 +20,8 @@ takes n p = n.multiple * taken_at (n.meaning.rate p)
 abbrev pub gives : Node → ℕ
 gives n = n.multiple * given_at (n.meaning.rate 0)
 
--- the greatest k such that k firings take at most so many items of input p: in closed form, since a search for it would take long.
--- A block that shifts has a multiple of 1
+-- the greatest k such that k firings take at most so many items of input p: in closed form, since a search for it would
+-- take long. A block that shifts has a multiple of 1
 abbrev pub allowed_by : Shift → ℕ → ℕ → ℕ
 allowed_by No each items = items / each
 allowed_by (Skip n) each items = items

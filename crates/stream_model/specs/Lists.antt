@@ -31,7 +31,8 @@ item_before xs n back = if nat_le back n then item xs (n - back) else pos 0
 abbrev pub window : List ℤ → ℕ → ℕ → ℕ → List ℤ
 window xs past from to = take (past + to - from) (drop from (replicate past (pos 0) ++ xs))
 
--- how many of the tests 1, 2, .. up to most pass, until the first that fails: the greatest such number where each test implies those before it
+-- how many of the tests 1, 2, .. up to most pass, until the first that fails: the greatest such number where each test
+-- implies those before it
 abbrev pub greatest_from : (ℕ → Bool) → ℕ → ℕ → ℕ
 greatest_from ok n zero = n
 greatest_from ok n (suc more) = elim (ok (suc n)) [ true ↦ greatest_from ok (suc n) more | false ↦ n ]

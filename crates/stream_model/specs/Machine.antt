@@ -1,5 +1,5 @@
--- The machine of calls: each call takes a state to a reply and the next state. Which block acts, when and how much is the
--- caller's choice; the reply to a call in a state is not.
+-- The machine of calls: each call takes a state to a reply and the next state. Which block acts, when and how much is
+-- the caller's choice; the reply to a call in a state is not.
 use Rattle.std.specs.Prelude.{ℕ, ◌+◌, ◌*◌, ◌≡◌, min, ℤ, int_le, List, [], ◌∷◌, ◌++◌, length, map, Option, Some, None, Bool, true, false, ◌&&◌, ◌||◌, not, nat_le, nat_lt, ◌==◌, if◌then◌else◌, slice_index_or, slice_set, slice_range}
 use Rattle.std.specs.List.{list_all}
 use Rattle.std.specs.Ordering.{int_eq}
@@ -14,8 +14,8 @@ use Rattle.stream_model.specs.Meaning.{windows_of, held_of, input}
 use Rattle.stream_model.specs.Network.{Connection, Network, Handed, Progress, State, node_at, handed_at, progress_at, is_source, is_keeper, role_at, writers_of, readers_of, used_outputs, taken_by, given_by, entering, tags_entering}
 use Rattle.stream_model.specs.Claims.{InputCounts, ReaderCounts, OutputCounts, Counts, Decision, IsDone, IsBusy, Ends, Fires, LacksItems, LacksRoom, decide}
 
--- what a claim hands out: the block with how many of its outputs are used, its first firing and how many, the windows on its inputs, its
--- settings over them and its state word
+-- what a claim hands out: the block with how many of its outputs are used, its first firing and how many, the windows
+-- on its inputs, its settings over them and its state word
 pub record Job : Type 0 where
   pub block : ℕ
   pub outputs : ℕ
@@ -116,7 +116,11 @@ reader_counts net st c =
     record { taken = taken_by (node_at net c.to) c.in_port reader.firings; done = reader.done }
 
 abbrev pub output_counts : Network → Capacities → State → ℕ → ℕ → OutputCounts
-output_counts net caps st b p = record { capacity = capacity_at caps b p; readers = map (reader_counts net st) (readers_of net b p) }
+output_counts net caps st b p = record {
+  capacity = capacity_at caps b p;
+  readers = map (reader_counts net st)
+      (readers_of net b p);
+}
 
 -- the used outputs of block b
 abbrev pub counts_out : Network → Capacities → State → ℕ → List OutputCounts
@@ -167,7 +171,11 @@ abbrev pub claimed_by : Network → State → ℕ → Decision → Reply × Stat
 claimed_by net st b IsDone = (Done, st)
 claimed_by net st b IsBusy = (Busy, st)
 claimed_by net st b Ends = (Done, ended st b)
-claimed_by net st b (Fires count) = (Claimed (job_of net st b count), with_progress st b (record (progress_at st.progress b) { claimed = count }))
+claimed_by net st b (Fires count) = (
+  Claimed (job_of net st b count),
+  with_progress st b
+      (record (progress_at st.progress b) { claimed = count }),
+)
 claimed_by net st b (LacksItems p) = (WaitingItems p, st)
 claimed_by net st b (LacksRoom p) = (WaitingRoom p, st)
 
@@ -202,14 +210,16 @@ settings_agree (g ∷ gs) (h ∷ hs) = g.at == h.at && values_agree g.value h.va
 
 abbrev pub jobs_agree : Job → Job → Bool
 jobs_agree i j =
-    i.block == j.block && i.outputs == j.outputs && i.first == j.first && i.count == j.count && windows_agree i.windows j.windows
+    i.block == j.block && i.outputs == j.outputs && i.first == j.first && i.count == j.count && windows_agree i.windows
+    j.windows
     && settings_agree i.held j.held && i.word == j.word
 
 -- the job is the block's claim in flight
 abbrev pub is_in_flight : Network → State → Bool → Job → Bool
 is_in_flight net st own job =
     let s = progress_at st.progress job.block in
-    own && nat_lt job.block (length net.nodes) && nat_lt 0 s.claimed && jobs_agree job (job_of net st job.block s.claimed)
+    own && nat_lt job.block (length net.nodes) && nat_lt 0 s.claimed && jobs_agree job
+    (job_of net st job.block s.claimed)
 
 unfoldable pub commit_of : Network → State → Bool → Job → Reply × State
 commit_of net st own job =
@@ -256,8 +266,8 @@ close_of net st b =
     else (if s.closed then (Refused already_closed, st)
     else (Closed (length s.tape), with_handed st b (record s { closed = true }))))
 
--- a value of the sort, range and length that the block's setting has. Taps are numbers of 16 bits by their type in code, which alone
--- rules out others
+-- a value of the sort, range and length that the block's setting has. Taps are numbers of 16 bits by their type in
+-- code, which alone rules out others
 abbrev pub is_wanted : Wanted → Value → Bool
 is_wanted (wanted.Number least most) (Number z) = int_le least z && int_le z most
 is_wanted (wanted.Number least most) (Taps h) = false
@@ -297,14 +307,19 @@ read_of net st b from max =
     if not (nat_lt b (length net.nodes)) then (Refused no_such_block, st)
     else (if not (is_keeper (role_at net b)) then (Refused not_sink, st)
     else (if nat_lt s.firings from then (Refused beyond_end, st)
-    else (Piece from s.firings (slice_range (input (entering net st.handed b) 0) from to) (tags_within from to (tags_entering net st.handed b 0)) s.done, st)))
+    else (
+      Piece from s.firings (slice_range (input (entering net st.handed b) 0) from to)
+          (tags_within from to (tags_entering net st.handed b 0)) s.done,
+      st,
+    )))
 
 -- the reply to a call and the next state
 abbrev pub next : Network → Capacities → State → Call → Reply × State
 next net caps st (Feed b t xs ms) = feed_of net st b t xs ms
 next net caps st (Close b) = close_of net st b
 next net caps st (Set b at v) = set_of net st b at v
-next net caps st (Claim b max) = if nat_lt b (length net.nodes) then claim_of net caps st b max else (Refused no_such_block, st)
+next net caps st (Claim b max) = if nat_lt b (length net.nodes) then claim_of net caps st b
+    max else (Refused no_such_block, st)
 next net caps st (Commit own job) = commit_of net st own job
 next net caps st (Abandon own job) = abandon_of net st own job
 next net caps st (Read b from max) = read_of net st b from max
@@ -337,7 +352,8 @@ is_waiting _ = false
 -- nothing is claimed, and each block that is not done would wait
 abbrev pub is_quiet : Network → Capacities → State → Bool
 is_quiet net caps st =
-    is_idle st && list_all (λ b. (progress_at st.progress b).done || is_waiting (claim_of net caps st b 1).0) (below (length net.nodes))
+    is_idle st && list_all (λ b. (progress_at st.progress b).done || is_waiting (claim_of net caps st b 1).0)
+    (below (length net.nodes))
 
 abbrev pub is_all_done : State → Bool
 is_all_done st = list_all (λ s. s.done) st.progress
@@ -345,7 +361,8 @@ is_all_done st = list_all (λ s. s.done) st.progress
 -- a sink holds all items of the stream that enters it, and all its tags: those that lie on items that it has taken
 pub record HoldsAll (net : Network) (st : State) (b : ℕ) : Type 0 where
   pub items : (progress_at st.progress b).firings ≡ length (input (entering net st.handed b) 0)
-  pub tags : tags_within 0 (progress_at st.progress b).firings (tags_entering net st.handed b 0) ≡ tags_entering net st.handed b 0
+  pub tags : tags_within 0 (progress_at st.progress b).firings (tags_entering net st.handed b 0)
+      ≡ tags_entering net st.handed b 0
 
 -- each sink does
 abbrev pub IsWhole : Network → State → Type 0

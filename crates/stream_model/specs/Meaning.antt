@@ -60,8 +60,8 @@ pub record SameInputs (m : Meaning) (k : ℕ) (xs ys : List (List ℤ)) : Type 0
   pub ports : length xs ≡ length ys
   pub items : (p : ℕ) → take (m.taken p k) (input xs p) ≡ take (m.taken p k) (input ys p)
 
--- a block at a rate takes d items of input p and gives i items a firing; a tag goes no further back than the first item of the firing that takes its item, and
--- at most to the first item of the next
+-- a block at a rate takes d items of input p and gives i items a firing; a tag goes no further back than the first item
+-- of the firing that takes its item, and at most to the first item of the next
 pub record IsAtRate (m : Meaning) (p d i : ℕ) : Type 0 where
   pub takes_some : 1 ≤ d
   pub takes_few : d ≤ 1024
@@ -72,11 +72,13 @@ pub record IsAtRate (m : Meaning) (p d i : ℕ) : Type 0 where
   pub not_early : (s : ℕ) → s / d * i ≤ m.place p s
   pub not_far : (s : ℕ) → m.place p s ≤ s / d * i + i
 
--- a block without a rate leaves out its first items, or gives some before it takes any: not too many, since each delay adds to the numbers of items
+-- a block without a rate leaves out its first items, or gives some before it takes any: not too many, since each delay
+-- adds to the numbers of items
 abbrev pub IsShifted : Meaning → ℕ → Shift → Type 0
 IsShifted m p No = ⊥
 IsShifted m p (Skip n) = ((k : ℕ) → m.taken p k ≡ k) × ((k : ℕ) → m.given k ≡ k - n) × ((s : ℕ) → m.place p s ≡ s - n)
-IsShifted m p (Delay n) = (n ≤ 65536) × ((k : ℕ) → m.taken p k ≡ k - n) × ((k : ℕ) → m.given k ≡ k) × ((s : ℕ) → m.place p s ≡ s + n)
+IsShifted m p (Delay n) = (n ≤ 65536) × ((k : ℕ) → m.taken p k ≡ k - n) × ((k : ℕ) → m.given k ≡ k)
+    × ((s : ℕ) → m.place p s ≡ s + n)
 
 abbrev pub HasCounts : Meaning → ℕ → Option (ℕ × ℕ) → Type 0
 HasCounts m p None = IsShifted m p m.shift
@@ -111,15 +113,21 @@ pub record IsLawful (m : Meaning) : Type 0 where
   -- a block without a rate has no setting
   pub settable : IsSome m.setting → IsSome (m.rate 0)
   pub starts : (ts : List Held) (xs : List (List ℤ)) → m.word ts xs 0 ≡ m.start
-  pub in_range : (ts : List Held) (xs : List (List ℤ)) (p n : ℕ) → p < m.outputs.most → AreWanted m ts → All (AreItems m.inputs.item) xs → IsItem m.outputs.item (m.out ts xs p n)
-  -- what k firings give, and the state word after them, depends on the items that they take and on the settings in force at these alone
-  pub local : (ts us : List Held) (xs ys : List (List ℤ)) (k p n : ℕ) → p < m.outputs.most → SameSettings m k ts us → SameInputs m k xs ys → n < m.given k → m.out ts xs p n ≡ m.out us ys p n
-  pub local_word : (ts us : List Held) (xs ys : List (List ℤ)) (k : ℕ) → SameSettings m k ts us → SameInputs m k xs ys → m.word ts xs k ≡ m.word us ys k
+  pub in_range : (ts : List Held) (xs : List (List ℤ)) (p n : ℕ) → p < m.outputs.most → AreWanted m ts
+      → All (AreItems m.inputs.item) xs → IsItem m.outputs.item (m.out ts xs p n)
+  -- what k firings give, and the state word after them, depends on the items that they take and on the settings in
+  -- force at these alone
+  pub local : (ts us : List Held) (xs ys : List (List ℤ)) (k p n : ℕ) → p < m.outputs.most → SameSettings m k ts us
+      → SameInputs m k xs ys → n < m.given k → m.out ts xs p n ≡ m.out us ys p n
+  pub local_word : (ts us : List Held) (xs ys : List (List ℤ)) (k : ℕ) → SameSettings m k ts us → SameInputs m k xs ys
+      → m.word ts xs k ≡ m.word us ys k
 
--- the windows on inputs p, p + 1, ..: the items that firings first to below first + n take, behind the past that they read
+-- the windows on inputs p, p + 1, ..: the items that firings first to below first + n take, behind the past that they
+-- read
 abbrev pub windows_from : Meaning → ℕ → List (List ℤ) → ℕ → ℕ → List (List ℤ)
 windows_from m p [] first n = []
-windows_from m p (x ∷ xs) first n = window x (m.history - 1) (m.taken p first) (m.taken p (first + n)) ∷ windows_from m (suc p) xs first n
+windows_from m p (x ∷ xs) first n = window x (m.history - 1) (m.taken p first) (m.taken p (first + n)) ∷ windows_from m
+    (suc p) xs first n
 
 abbrev pub windows_of : Meaning → List (List ℤ) → ℕ → ℕ → List (List ℤ)
 windows_of m xs first n = windows_from m 0 xs first n
@@ -140,7 +148,8 @@ abbrev pub given_outputs : Meaning → List Held → List (List ℤ) → ℕ →
 given_outputs m ts xs first n outputs = map (given_items m ts xs first n) (below outputs)
 
 -- what a block is given for firings first to below first + n of the streams xs under the settings ts
-pub record IsFed (m : Meaning) (ts : List Held) (xs : List (List ℤ)) (first n : ℕ) (state : ℕ) (windows : List (List ℤ)) (held : List Held) : Type 0 where
+pub record IsFed (m : Meaning) (ts : List Held) (xs : List (List ℤ)) (first n : ℕ) (state : ℕ) (windows : List (List ℤ))
+    (held : List Held) : Type 0 where
   pub there : (p : ℕ) → p < length xs → m.taken p (first + n) ≤ length (input xs p)
   pub windows_are : windows ≡ windows_of m xs first n
   pub held_are : held ≡ held_of m ts first n

@@ -1,4 +1,5 @@
--- A network of blocks, and the streams that its equations give (Kahn 1974): a stream depends on the tapes and settings alone, never on a schedule.
+-- A network of blocks, and the streams that its equations give (Kahn 1974): a stream depends on the tapes and settings
+-- alone, never on a schedule.
 use Rattle.std.specs.Prelude.{ℕ, zero, suc, ◌+◌, ◌*◌, ◌^◌, ◌<◌, ◌≤◌, ◌≡◌, max, ℤ, pos, List, [], ◌∷◌, ◌++◌, length, map, filter, flat_map, Option, Some, None, Bool, true, false, ◌&&◌, nat_le, ◌==◌, slice_index_or, if◌then◌else◌, All}
 use Rattle.stream_model.specs.declared.vocabulary.Role.{Role}
 use Rattle.stream_model.specs.declared.vocabulary.Role.TheVariants.{Source, Work, Keep, Discard}
@@ -29,8 +30,8 @@ pub record Network : Type 0 where
   pub nodes : List Node
   pub connections : List Connection
 
--- what a block was handed: a source's tape with its tags, whether the tape is closed, the settings by their items, and the most items that
--- the tape may come to hold
+-- what a block was handed: a source's tape with its tags, whether the tape is closed, the settings by their items, and
+-- the most items that the tape may come to hold
 pub record Handed : Type 0 where
   pub tape : List ℤ
   pub tags : List Tag
@@ -98,7 +99,11 @@ progress_at ps b = slice_index_or ps b no_progress
 
 -- the state after opening, where tapes may come to hold so many items: empty open tapes, no settings, nothing fired
 abbrev pub opening_within : ℕ → Network → State
-opening_within longest net = record { handed = map (λ _. nothing_within longest) net.nodes; progress = map (λ _. no_progress) net.nodes }
+opening_within longest net = record {
+  handed = map (λ _. nothing_within longest) net.nodes;
+  progress = map
+      (λ _. no_progress) net.nodes;
+}
 
 abbrev pub opening : Network → State
 opening net = opening_within longest_tape net
@@ -124,7 +129,8 @@ enters b p c = c.to == b && c.in_port == p
 
 -- the connections to block b, by input: one for each of its used inputs, which are numbered from 0 without a gap
 abbrev pub writers_of : Network → ℕ → List Connection
-writers_of net b = flat_map (λ p. filter (enters b p) net.connections) (below (length (filter (λ c. c.to == b) net.connections)))
+writers_of net b = flat_map (λ p. filter (enters b p) net.connections)
+    (below (length (filter (λ c. c.to == b) net.connections)))
 
 -- what a port without a connection reads as
 abbrev pub no_connection : Connection
@@ -168,7 +174,8 @@ abbrev pub longest_delay : ℕ
 longest_delay = 65536
 
 abbrev pub fires : Node → List ℕ → ℕ
-fires n counts = greatest (λ k. holds_inputs n 0 counts k && within_limit n.meaning.limit k) (slice_index_or counts 0 0 + longest_delay)
+fires n counts = greatest (λ k. holds_inputs n 0 counts k && within_limit n.meaning.limit k)
+    (slice_index_or counts 0 0 + longest_delay)
 
 -- the stream of a block's output, from the whole streams that enter it
 abbrev pub stream_from : Node → List Held → List (List ℤ) → ℕ → List ℤ
@@ -181,7 +188,8 @@ items_by zero net hs b p = (handed_at hs b).tape
 items_by (suc turns) net hs b p =
     elim (is_source (role_at net b)) [
       | true ↦ (handed_at hs b).tape
-      | false ↦ stream_from (node_at net b) (handed_at hs b).settings (map (λ c. items_by turns net hs c.from c.out_port) (writers_of net b)) p
+      | false ↦ stream_from (node_at net b) (handed_at hs b).settings
+          (map (λ c. items_by turns net hs c.from c.out_port) (writers_of net b)) p
     ]
 
 -- the items of output p of block b
@@ -211,14 +219,16 @@ chosen policy.All n p q (t ∷ ts) = moved n q t ++ chosen policy.All n p (suc q
 chosen policy.One n p q [] = []
 chosen policy.One n p q (t ∷ ts) = if p == q then moved n q t else chosen policy.One n p (suc q) ts
 
--- the tags of the streams, in order: a source's are its tape's, any other's those that its policy chooses, moved, on items that there are
+-- the tags of the streams, in order: a source's are its tape's, any other's those that its policy chooses, moved, on
+-- items that there are
 unfoldable pub tags_by : ℕ → Network → List Handed → ℕ → ℕ → List Tag
 tags_by zero net hs b p = (handed_at hs b).tags
 tags_by (suc turns) net hs b p =
     elim (is_source (role_at net b)) [
       | true ↦ sorted_tags (handed_at hs b).tags
       | false ↦ tags_within 0 (length (items_of net hs b p))
-          (sorted_tags (chosen (node_at net b).policy (node_at net b) p 0 (map (λ c. tags_by turns net hs c.from c.out_port) (writers_of net b))))
+          (sorted_tags (chosen (node_at net b).policy (node_at net b) p 0
+          (map (λ c. tags_by turns net hs c.from c.out_port) (writers_of net b))))
     ]
 
 abbrev pub tags_of : Network → List Handed → ℕ → ℕ → List Tag
@@ -233,13 +243,15 @@ pub record IsSound (n : Node) : Type 0 where
   pub lawful : IsLawful n.meaning
   pub some : 1 ≤ n.multiple
 
--- connections form no loop: each block has a level below the number of blocks, and every connection leads to a higher one
+-- connections form no loop: each block has a level below the number of blocks, and every connection leads to a higher
+-- one
 pub record HasLevels (net : Network) (level : ℕ → ℕ) : Type 0 where
   pub few : (b : ℕ) → b < length net.nodes → level b < length net.nodes
-  pub rises : All (λ c. (c.from < length net.nodes) × (c.to < length net.nodes) × (level c.from < level c.to)) net.connections
+  pub rises : All (λ c. (c.from < length net.nodes) × (c.to < length net.nodes) × (level c.from < level c.to))
+      net.connections
 
--- the streams of a network whose connections form no loop are a solution of its equations: a source's stream is its tape, any other's is its
--- block's equation on the streams that enter it
+-- the streams of a network whose connections form no loop are a solution of its equations: a source's stream is its
+-- tape, any other's is its block's equation on the streams that enter it
 abbrev pub StreamsUnfold : Type 0
 StreamsUnfold =
     (net : Network) (hs : List Handed) (level : ℕ → ℕ) → HasLevels net level → (b p : ℕ) → b < length net.nodes →

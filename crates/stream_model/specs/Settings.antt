@@ -17,7 +17,8 @@ abbrev pub latest : Held → List Held → ℕ → Held
 latest h [] a = h
 latest h (t ∷ ts) a = if nat_le t.at a && nat_le h.at t.at then latest t ts a else latest h ts a
 
--- the setting in force at item a, where own is the block's own parameter and ts the settings, of several at one item the last
+-- the setting in force at item a, where own is the block's own parameter and ts the settings, of several at one item
+-- the last
 abbrev pub setting_at : Value → List Held → ℕ → Held
 setting_at own ts a = latest (record { at = 0; value = own }) ts a
 
@@ -37,7 +38,8 @@ between own ts from to = setting_at own ts from ∷ filter_map (made_at own ts) 
 abbrev pub IsRising : List Held → Type 0
 IsRising ts = AllPairs (λ h t. h.at < t.at) ts
 
--- the settings by their items with one more: it takes the place of one of the same item, and else goes before the first of a later item
+-- the settings by their items with one more: it takes the place of one of the same item, and else goes before the first
+-- of a later item
 abbrev pub put_setting : Held → List Held → List Held
 put_setting h [] = h ∷ []
 put_setting h (t ∷ ts) = if nat_lt t.at h.at then t ∷ put_setting h ts else h ∷ (if t.at == h.at then ts else t ∷ ts)

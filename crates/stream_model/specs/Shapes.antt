@@ -20,7 +20,8 @@ abbrev pub any_ports : ItemType → Signature
 any_ports t = record { least = 1; most = 16; item = t }
 
 -- a block that takes d items of each input in a firing and gives i on each output, from the current items alone,
--- without a setting, a limit or a memory (GNU Radio manual: sync block, decimator, interpolator); each kind then gives its equation
+-- without a setting, a limit or a memory (GNU Radio manual: sync block, decimator, interpolator); each kind then gives
+-- its equation
 abbrev pub at_rate : Signature → Signature → ℕ → ℕ → Meaning
 at_rate ins outs d i =
     record {

@@ -21,7 +21,8 @@ pub record Mark : Type 0 where
 abbrev pub tag_cmp : Tag → Tag → Ordering
 tag_cmp a b =
     ordering_then (nat_cmp a.offset b.offset)
-    (ordering_then (slice_cmp nat_cmp a.key b.key) (ordering_then (int_cmp a.value b.value) (nat_cmp a.source b.source)))
+    (ordering_then (slice_cmp nat_cmp a.key b.key) (ordering_then (int_cmp a.value b.value)
+    (nat_cmp a.source b.source)))
 
 -- a sorted list of tags with one more, duplicates kept
 abbrev pub insert_tag : Tag → List Tag → List Tag

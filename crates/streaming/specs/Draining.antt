@@ -27,7 +27,8 @@ items_taken net st b d max = slice_range (stream_into net st b) d.from (end_of d
 abbrev pub tags_taken : Network → State → ℕ → Appended → ℕ → List Tag
 tags_taken net st b d max = tags_within d.from (end_of d max) (tags_into net st b)
 
--- where a sink was drained up to an item, there is room for all that a drain of at most max takes away: beside `spare` items and `len` tags of `most`
+-- where a sink was drained up to an item, there is room for all that a drain of at most max takes away: beside `spare`
+-- items and `len` tags of `most`
 pub record HasRoom (net : Network) (st : State) (b from max spare len most : ℕ) : Type 0 where
   pub items : min (from + max) (fired st b) ≤ spare + from
   pub tags : len + length (tags_within from (min (from + max) (fired st b)) (tags_into net st b)) ≤ most

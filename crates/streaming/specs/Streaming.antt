@@ -12,13 +12,14 @@ use Rattle.plant.specs.declared.parts.Parts.{Parts}
 use Rattle.plant.specs.Plant.{IsRight, PlantState, plant_of, spans_in}
 use Rattle.plant.specs.Opening.{opening_plant_within}
 
--- the plant as it would be if it forgot nothing, and the first item that is kept in memory of each tape, of what each sink has collected, and of each
--- block's settings
+-- the plant as it would be if it forgot nothing, and the first item that is kept in memory of each tape, of what each
+-- sink has collected, and of each block's settings
 pub record StreamingState (B : Type 0) : Type 0 where
   pub plant : PlantState B
   pub kept : Firsts
 
--- what a plant that streams keeps: it claims and commits in one, so that nothing is in flight between two calls, and it has its tapes alone
+-- what a plant that streams keeps: it claims and commits in one, so that nothing is in flight between two calls, and it
+-- has its tapes alone
 pub record IsStreaming {B P : Type 0} (meaning : B → Meaning) (p : Parts B P) : Type 0 where
   pub right : IsRight meaning p
   pub idle : is_idle (plant_of p).state ≡ true
@@ -54,18 +55,23 @@ pub record HasDrainedTo {B : Type 0} (old new : StreamingState B) (sink to : ℕ
   pub sinks : new.kept.sinks ≡ slice_set old.kept.sinks sink to
   pub settings : new.kept.settings ≡ old.kept.settings
 
--- of no tape is anything kept that its source has taken, nor of the settings of a block that has some what no item is read with any more
+-- of no tape is anything kept that its source has taken, nor of the settings of a block that has some what no item is
+-- read with any more
 pub record KeepsNoTaken {B : Type 0} (net : Network) (s : StreamingState B) : Type 0 where
   pub tapes : (b : ℕ) → b < length net.nodes → is_source (role_at net b) ≡ true → tape_kept s b ≡ fired s.plant.state b
-  pub settings : (b : ℕ) → b < length net.nodes → is_source (role_at net b) ≡ false → IsSome (node_at net b).meaning.own → settings_kept s b ≡ taken_by (node_at net b) 0 (fired s.plant.state b)
+  pub settings : (b : ℕ) → b < length net.nodes → is_source (role_at net b) ≡ false → IsSome (node_at net b).meaning.own
+      → settings_kept s b ≡ taken_by (node_at net b) 0 (fired s.plant.state b)
 
--- what is drained of a sink goes on where it stopped: with these items and tags, what was drained is a longer beginning of the stream
+-- what is drained of a sink goes on where it stopped: with these items and tags, what was drained is a longer beginning
+-- of the stream
 pub record GoesOn (net : Network) (st : State) (b from : ℕ) (items : List ℤ) (tags : List Tag) : Type 0 where
   pub items_join : take (from + length items) (stream_into net st b) ≡ take from (stream_into net st b) ++ items
-  pub tags_join : tags_within 0 (from + length items) (tags_into net st b) ≡ tags_within 0 from (tags_into net st b) ++ tags
+  pub tags_join : tags_within 0 (from + length items) (tags_into net st b) ≡ tags_within 0 from (tags_into net st b)
+      ++ tags
 
 -- whatever is called later, the first k items of the stream that enters a sink stay, and the tags on them
 abbrev pub StaysBegun : Network → Capacities → State → ℕ → ℕ → Type 0
 StaysBegun net caps st b k =
     (calls : List Call) → let later = (run_of net caps st calls).1 in
-    (take k (stream_into net later b) ≡ take k (stream_into net st b)) × (tags_within 0 k (tags_into net later b) ≡ tags_within 0 k (tags_into net st b))
+    (take k (stream_into net later b) ≡ take k (stream_into net st b))
+    × (tags_within 0 k (tags_into net later b) ≡ tags_within 0 k (tags_into net st b))

@@ -8,7 +8,8 @@ use Rattle.flowgraph.specs.Flowgraph.{net_of}
 use Rattle.plant.specs.declared.parts.Parts.{Parts}
 use Rattle.plant.specs.Plant.{IsRight, PlantState, plant_of, spans_in}
 
--- a claim of at most max firings, or work that is brought back or given up: all that moves blocks on, and nothing that hands them something
+-- a claim of at most max firings, or work that is brought back or given up: all that moves blocks on, and nothing that
+-- hands them something
 abbrev pub is_work : (max : ℕ) → Call → Bool
 is_work max (Claim b most) = nat_le most max
 is_work max (Commit own job) = true
@@ -17,7 +18,8 @@ is_work max _ = false
 
 -- such calls alone led from one state to the other
 abbrev pub WorkLeads : Network → Capacities → (max : ℕ) → State → State → Type 0
-WorkLeads net caps max old new = (calls : List Call) × (list_all (is_work max) calls ≡ true) × (new ≡ (run_of net caps old calls).1)
+WorkLeads net caps max old new = (calls : List Call) × (list_all (is_work max) calls ≡ true)
+    × (new ≡ (run_of net caps old calls).1)
 
 -- they led a plant on, of which only the state is another
 pub record HasWorked {B : Type 0} (meaning : B → Meaning) (max : ℕ) (old new : PlantState B) : Type 0 where

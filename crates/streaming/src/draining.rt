@@ -48,11 +48,16 @@ pub(crate) fn peek<B: Block>(
 ) -> Result<Piece, PlantFault>
     requires { IsRight B.meaning parts.now }
     ensures answered { let plant = plant_of parts.now in
-        AnsweredBy (read_of (net_of B.meaning plant.graph) plant.state sink.0 (slice_index_or (spans_in parts.now).firsts.sinks sink.0 0) max) (reply_of piece_reply result) }
-    ensures typed { let plant = plant_of parts.now in IfOk result (λ piece. type_of piece.items ≡ (node_at (net_of B.meaning plant.graph) sink.0).meaning.inputs.item) }
-    ensures whole { let plant = plant_of parts.now in IfOk result (λ piece. piece.done ≡ true → HoldsAll (net_of B.meaning plant.graph) plant.state sink.0) }
+        AnsweredBy (read_of (net_of B.meaning plant.graph) plant.state sink.0
+        (slice_index_or (spans_in parts.now).firsts.sinks sink.0 0) max) (reply_of piece_reply result) }
+    ensures typed { let plant = plant_of parts.now in IfOk result (λ piece. type_of piece.items
+        ≡ (node_at (net_of B.meaning plant.graph) sink.0).meaning.inputs.item) }
+    ensures whole { let plant = plant_of parts.now in IfOk result (λ piece. piece.done ≡ true
+        → HoldsAll (net_of B.meaning plant.graph) plant.state sink.0) }
     ensures joins { let plant = plant_of parts.now in
-        IfOk result (λ piece. GoesOn (net_of B.meaning plant.graph) plant.state sink.0 (slice_index_or (spans_in parts.now).firsts.sinks sink.0 0) (numbers_of piece.items) (map tag_of piece.tags.items)) }
+        IfOk result (λ piece. GoesOn (net_of B.meaning plant.graph) plant.state sink.0
+        (slice_index_or (spans_in parts.now).firsts.sinks sink.0 0) (numbers_of piece.items)
+        (map tag_of piece.tags.items)) }
 {
     parts.graph.recall();
     let from = drained(parts, sink);
@@ -70,16 +75,22 @@ pub(crate) fn drain<B: Block>(
     ensures right { IsRight B.meaning parts.new }
     ensures same { plant_of parts.new ≡ plant_of parts.old }
     ensures answered { let plant = plant_of parts.old in
-        AnsweredBy (read_of (net_of B.meaning plant.graph) plant.state sink.0 (slice_index_or (spans_in parts.old).firsts.sinks sink.0 0) max) (reply_of piece_reply result) }
-    ensures typed { let plant = plant_of parts.old in IfOk result (λ piece. type_of piece.items ≡ (node_at (net_of B.meaning plant.graph) sink.0).meaning.inputs.item) }
-    ensures whole { let plant = plant_of parts.old in IfOk result (λ piece. piece.done ≡ true → HoldsAll (net_of B.meaning plant.graph) plant.state sink.0) }
+        AnsweredBy (read_of (net_of B.meaning plant.graph) plant.state sink.0
+        (slice_index_or (spans_in parts.old).firsts.sinks sink.0 0) max) (reply_of piece_reply result) }
+    ensures typed { let plant = plant_of parts.old in IfOk result (λ piece. type_of piece.items
+        ≡ (node_at (net_of B.meaning plant.graph) sink.0).meaning.inputs.item) }
+    ensures whole { let plant = plant_of parts.old in IfOk result (λ piece. piece.done ≡ true
+        → HoldsAll (net_of B.meaning plant.graph) plant.state sink.0) }
     ensures joins { let plant = plant_of parts.old in
-        IfOk result (λ piece. GoesOn (net_of B.meaning plant.graph) plant.state sink.0 (slice_index_or (spans_in parts.old).firsts.sinks sink.0 0) (numbers_of piece.items) (map tag_of piece.tags.items)) }
+        IfOk result (λ piece. GoesOn (net_of B.meaning plant.graph) plant.state sink.0
+        (slice_index_or (spans_in parts.old).firsts.sinks sink.0 0) (numbers_of piece.items)
+        (map tag_of piece.tags.items)) }
     ensures tapes { (spans_in parts.new).firsts.tapes ≡ (spans_in parts.old).firsts.tapes }
     ensures settings { (spans_in parts.new).firsts.settings ≡ (spans_in parts.old).firsts.settings }
     ensures alone { (spans_in parts.new).own ≡ (spans_in parts.old).own }
     ensures sinks { let old = (spans_in parts.old).firsts.sinks in
-        IfOk result (λ piece. (spans_in parts.new).firsts.sinks ≡ slice_set old sink.0 (slice_index_or old sink.0 0 + length (numbers_of piece.items))) }
+        IfOk result (λ piece. (spans_in parts.new).firsts.sinks ≡ slice_set old sink.0
+        (slice_index_or old sink.0 0 + length (numbers_of piece.items))) }
     ensures err { OnErr result (spans_in parts.new ≡ spans_in parts.old) }
 {
     parts.graph.recall();
@@ -108,12 +119,16 @@ pub(crate) fn consume<B: Block>(
     requires { IsRight B.meaning parts.old }
     ensures right { IsRight B.meaning parts.new }
     ensures same { plant_of parts.new ≡ plant_of parts.old }
-    ensures absent { let net = net_of B.meaning (plant_of parts.old).graph in length net.nodes ≤ sink.0 → result ≡ Err NoSuchBlock }
-    ensures no_sink { let net = net_of B.meaning (plant_of parts.old).graph in sink.0 < length net.nodes → is_keeper (role_at net sink.0) ≡ false → result ≡ Err NotSink }
-    ensures sink { let net = net_of B.meaning (plant_of parts.old).graph in sink.0 < length net.nodes → is_keeper (role_at net sink.0) ≡ true → IsOk result }
+    ensures absent { let net = net_of B.meaning (plant_of parts.old).graph in length net.nodes ≤ sink.0 → result
+        ≡ Err NoSuchBlock }
+    ensures no_sink { let net = net_of B.meaning (plant_of parts.old).graph in sink.0 < length net.nodes
+        → is_keeper (role_at net sink.0) ≡ false → result ≡ Err NotSink }
+    ensures sink { let net = net_of B.meaning (plant_of parts.old).graph in sink.0 < length net.nodes
+        → is_keeper (role_at net sink.0) ≡ true → IsOk result }
     ensures at { let plant = plant_of parts.old in
         IfOk result (IsAtSink plant.state sink.0 (slice_index_or (spans_in parts.old).firsts.sinks sink.0 0)) }
-    ensures whole { let plant = plant_of parts.old in IfOk result (λ d. d.done ≡ true → HoldsAll (net_of B.meaning plant.graph) plant.state sink.0) }
+    ensures whole { let plant = plant_of parts.old in IfOk result (λ d. d.done ≡ true
+        → HoldsAll (net_of B.meaning plant.graph) plant.state sink.0) }
     ensures tapes { (spans_in parts.new).firsts.tapes ≡ (spans_in parts.old).firsts.tapes }
     ensures settings { (spans_in parts.new).firsts.settings ≡ (spans_in parts.old).firsts.settings }
     ensures alone { (spans_in parts.new).own ≡ (spans_in parts.old).own }
@@ -138,26 +153,33 @@ pub(crate) fn drain_into<B: Block>(
     requires { IsRight B.meaning parts.old }
     ensures right { IsRight B.meaning parts.new }
     ensures same { plant_of parts.new ≡ plant_of parts.old }
-    ensures refused { MayBeRefused (drain_fault (net_of B.meaning (plant_of parts.old).graph) sink.0 (type_of items.old)) result }
+    ensures refused { MayBeRefused (drain_fault (net_of B.meaning (plant_of parts.old).graph) sink.0
+        (type_of items.old)) result }
     ensures succeeds { let plant = plant_of parts.old in let net = net_of B.meaning plant.graph in
         drain_fault net sink.0 (type_of items.old) ≡ None →
-        HasRoom net plant.state sink.0 (slice_index_or (spans_in parts.old).firsts.sinks sink.0 0) max (spare_of items.old) (vec_len tags.old) (vec_capacity tags.old) → IsOk result }
+        HasRoom net plant.state sink.0 (slice_index_or (spans_in parts.old).firsts.sinks sink.0 0) max
+        (spare_of items.old) (vec_len tags.old) (vec_capacity tags.old) → IsOk result }
     ensures at { let plant = plant_of parts.old in
         IfOk result (IsAtSink plant.state sink.0 (slice_index_or (spans_in parts.old).firsts.sinks sink.0 0)) }
     ensures items { let plant = plant_of parts.old in
-        IfOk result (λ d. numbers_of items.new ≡ numbers_of items.old ++ items_taken (net_of B.meaning plant.graph) plant.state sink.0 d max) }
+        IfOk result (λ d. numbers_of items.new ≡ numbers_of items.old ++ items_taken (net_of B.meaning plant.graph)
+        plant.state sink.0 d max) }
     ensures tags { let plant = plant_of parts.old in
-        IfOk result (λ d. map tag_of tags.new.items ≡ map tag_of tags.old.items ++ tags_taken (net_of B.meaning plant.graph) plant.state sink.0 d max) }
+        IfOk result (λ d. map tag_of tags.new.items ≡ map tag_of tags.old.items
+        ++ tags_taken (net_of B.meaning plant.graph) plant.state sink.0 d max) }
     ensures joins { let plant = plant_of parts.old in let net = net_of B.meaning plant.graph in
-        IfOk result (λ d. GoesOn net plant.state sink.0 d.from (items_taken net plant.state sink.0 d max) (tags_taken net plant.state sink.0 d max)) }
-    ensures whole { let plant = plant_of parts.old in IfOk result (λ d. d.done ≡ true → HoldsAll (net_of B.meaning plant.graph) plant.state sink.0) }
+        IfOk result (λ d. GoesOn net plant.state sink.0 d.from (items_taken net plant.state sink.0 d max)
+        (tags_taken net plant.state sink.0 d max)) }
+    ensures whole { let plant = plant_of parts.old in IfOk result (λ d. d.done ≡ true
+        → HoldsAll (net_of B.meaning plant.graph) plant.state sink.0) }
     ensures item_type { type_of items.new ≡ type_of items.old }
     ensures tapes { (spans_in parts.new).firsts.tapes ≡ (spans_in parts.old).firsts.tapes }
     ensures settings { (spans_in parts.new).firsts.settings ≡ (spans_in parts.old).firsts.settings }
     ensures alone { (spans_in parts.new).own ≡ (spans_in parts.old).own }
     ensures sinks { let old = (spans_in parts.old).firsts.sinks in
         IfOk result (λ d. (spans_in parts.new).firsts.sinks ≡ slice_set old sink.0 (end_of d max)) }
-    ensures err { OnErr result ((spans_in parts.new ≡ spans_in parts.old) × (numbers_of items.new ≡ numbers_of items.old) × (tags.new.items ≡ tags.old.items)) }
+    ensures err { OnErr result ((spans_in parts.new ≡ spans_in parts.old)
+        × (numbers_of items.new ≡ numbers_of items.old) × (tags.new.items ≡ tags.old.items)) }
 {
     parts.graph.recall();
     let Extent { appended, to } = extent_of(parts, sink, max)?;
@@ -175,11 +197,16 @@ pub(crate) fn drain_into<B: Block>(
 // Which items a drain of at most `max` takes away of a sink.
 fn extent_of<B: Block>(parts: &Parts<B>, sink: BlockId, max: u64) -> Result<Extent, PlantFault>
     requires { IsRight B.meaning parts.now }
-    ensures absent { let net = net_of B.meaning (plant_of parts.now).graph in length net.nodes ≤ sink.0 → result ≡ Err NoSuchBlock }
-    ensures no_sink { let net = net_of B.meaning (plant_of parts.now).graph in sink.0 < length net.nodes → is_keeper (role_at net sink.0) ≡ false → result ≡ Err NotSink }
-    ensures sink { let net = net_of B.meaning (plant_of parts.now).graph in sink.0 < length net.nodes → is_keeper (role_at net sink.0) ≡ true → IsOk result }
-    ensures inside { let net = net_of B.meaning (plant_of parts.now).graph in IfOk result (λ e. (sink.0 < length net.nodes) × (is_keeper (role_at net sink.0) ≡ true)) }
-    ensures at { IfOk result (λ e. IsAtSink (plant_of parts.now).state sink.0 (slice_index_or (spans_in parts.now).firsts.sinks sink.0 0) e.appended) }
+    ensures absent { let net = net_of B.meaning (plant_of parts.now).graph in length net.nodes ≤ sink.0 → result
+        ≡ Err NoSuchBlock }
+    ensures no_sink { let net = net_of B.meaning (plant_of parts.now).graph in sink.0 < length net.nodes
+        → is_keeper (role_at net sink.0) ≡ false → result ≡ Err NotSink }
+    ensures sink { let net = net_of B.meaning (plant_of parts.now).graph in sink.0 < length net.nodes
+        → is_keeper (role_at net sink.0) ≡ true → IsOk result }
+    ensures inside { let net = net_of B.meaning (plant_of parts.now).graph in IfOk result
+        (λ e. (sink.0 < length net.nodes) × (is_keeper (role_at net sink.0) ≡ true)) }
+    ensures at { IfOk result (λ e. IsAtSink (plant_of parts.now).state sink.0
+        (slice_index_or (spans_in parts.now).firsts.sinks sink.0 0) e.appended) }
     ensures to { IfOk result (λ e. e.to ≡ end_of e.appended max) }
 {
     parts.graph.recall();
@@ -211,12 +238,15 @@ fn append(
     requires kept { collected.now.from ≤ from }
     requires ordered { from ≤ to }
     requires within { to ≤ length collected.now.items }
-    ensures succeeds { types_agree (type_of items.old) collected.now.item ≡ true → to ≤ spare_of items.old + from → vec_len tags.old + length (tags_within from to collected.now.tags) ≤ vec_capacity tags.old → IsOk result }
+    ensures succeeds { types_agree (type_of items.old) collected.now.item ≡ true → to ≤ spare_of items.old + from
+        → vec_len tags.old + length (tags_within from to collected.now.tags) ≤ vec_capacity tags.old → IsOk result }
     ensures other { types_agree (type_of items.old) collected.now.item ≡ false → result ≡ Err ItemRange }
     ensures same { types_agree (type_of items.old) collected.now.item ≡ true → IfErr result (λ fault. fault ≡ Memory) }
     ensures item_type { type_of items.new ≡ type_of items.old }
-    ensures items { OnOk result (numbers_of items.new ≡ numbers_of items.old ++ slice_range collected.now.items from to) }
-    ensures tags { OnOk result (map tag_of tags.new.items ≡ map tag_of tags.old.items ++ tags_within from to collected.now.tags) }
+    ensures items { OnOk result (numbers_of items.new ≡ numbers_of items.old
+        ++ slice_range collected.now.items from to) }
+    ensures tags { OnOk result (map tag_of tags.new.items ≡ map tag_of tags.old.items
+        ++ tags_within from to collected.now.tags) }
     ensures err { OnErr result ((numbers_of items.new ≡ numbers_of items.old) × (tags.new.items ≡ tags.old.items)) }
 {
     if items.item_type() != collected.item_type() {

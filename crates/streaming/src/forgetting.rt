@@ -18,7 +18,8 @@ pub(crate) fn forget_taken<B: Block>(parts: &mut Parts<B>)
     ensures same { plant_of parts.new ≡ plant_of parts.old }
     ensures sinks { (spans_in parts.new).firsts.sinks ≡ (spans_in parts.old).firsts.sinks }
     ensures tapes { let new = plant_of parts.new in let net = net_of B.meaning new.graph in
-        (b : ℕ) → b < length net.nodes → is_source (role_at net b) ≡ true → slice_index_or (spans_in parts.new).firsts.tapes b 0 ≡ fired new.state b }
+        (b : ℕ) → b < length net.nodes → is_source (role_at net b) ≡ true
+        → slice_index_or (spans_in parts.new).firsts.tapes b 0 ≡ fired new.state b }
     ensures settings { let new = plant_of parts.new in let net = net_of B.meaning new.graph in
         (b : ℕ) → b < length net.nodes → is_source (role_at net b) ≡ false → IsSome (node_at net b).meaning.own
         → slice_index_or (spans_in parts.new).firsts.settings b 0 ≡ taken_by (node_at net b) 0 (fired new.state b) }
@@ -39,13 +40,17 @@ fn forget_own<B: Block>(parts: &mut Parts<B>, block: BlockId)
     ensures same { plant_of parts.new ≡ plant_of parts.old }
     ensures sinks { (spans_in parts.new).firsts.sinks ≡ (spans_in parts.old).firsts.sinks }
     ensures tape { let old = plant_of parts.old in
-        is_source (role_at (net_of B.meaning old.graph) block.0) ≡ true → slice_index_or (spans_in parts.new).firsts.tapes block.0 0 ≡ fired old.state block.0 }
+        is_source (role_at (net_of B.meaning old.graph) block.0) ≡ true
+        → slice_index_or (spans_in parts.new).firsts.tapes block.0 0 ≡ fired old.state block.0 }
     ensures settings { let old = plant_of parts.old in let net = net_of B.meaning old.graph in
         is_source (role_at net block.0) ≡ false → IsSome (node_at net block.0).meaning.own
-        → slice_index_or (spans_in parts.new).firsts.settings block.0 0 ≡ taken_by (node_at net block.0) 0 (fired old.state block.0) }
-    ensures tapes { (a : ℕ) → (a ≡ block.0 → ⊥) → slice_index_or (spans_in parts.new).firsts.tapes a 0 ≡ slice_index_or (spans_in parts.old).firsts.tapes a 0 }
+        → slice_index_or (spans_in parts.new).firsts.settings block.0 0
+        ≡ taken_by (node_at net block.0) 0 (fired old.state block.0) }
+    ensures tapes { (a : ℕ) → (a ≡ block.0 → ⊥) → slice_index_or (spans_in parts.new).firsts.tapes a 0
+        ≡ slice_index_or (spans_in parts.old).firsts.tapes a 0 }
     ensures alone { (spans_in parts.new).own ≡ (spans_in parts.old).own }
-    ensures others { (a : ℕ) → (a ≡ block.0 → ⊥) → slice_index_or (spans_in parts.new).firsts.settings a 0 ≡ slice_index_or (spans_in parts.old).firsts.settings a 0 }
+    ensures others { (a : ℕ) → (a ≡ block.0 → ⊥) → slice_index_or (spans_in parts.new).firsts.settings a 0
+        ≡ slice_index_or (spans_in parts.old).firsts.settings a 0 }
 {
     parts.graph.recall();
     if parts.graph.is_source(block) {
@@ -65,9 +70,11 @@ fn forget_tape<B: Block>(parts: &mut Parts<B>, block: BlockId)
     ensures same { plant_of parts.new ≡ plant_of parts.old }
     ensures sinks { (spans_in parts.new).firsts.sinks ≡ (spans_in parts.old).firsts.sinks }
     ensures settings { (spans_in parts.new).firsts.settings ≡ (spans_in parts.old).firsts.settings }
-    ensures own { slice_index_or (spans_in parts.new).firsts.tapes block.0 0 ≡ fired (plant_of parts.old).state block.0 }
+    ensures own { slice_index_or (spans_in parts.new).firsts.tapes block.0 0
+        ≡ fired (plant_of parts.old).state block.0 }
     ensures alone { (spans_in parts.new).own ≡ (spans_in parts.old).own }
-    ensures others { (a : ℕ) → (a ≡ block.0 → ⊥) → slice_index_or (spans_in parts.new).firsts.tapes a 0 ≡ slice_index_or (spans_in parts.old).firsts.tapes a 0 }
+    ensures others { (a : ℕ) → (a ≡ block.0 → ⊥) → slice_index_or (spans_in parts.new).firsts.tapes a 0
+        ≡ slice_index_or (spans_in parts.old).firsts.tapes a 0 }
 {
     parts.graph.recall();
     let taken = parts.firings.progress(block).firings;
@@ -84,9 +91,11 @@ fn forget_settings<B: Block>(parts: &mut Parts<B>, block: BlockId)
     ensures sinks { (spans_in parts.new).firsts.sinks ≡ (spans_in parts.old).firsts.sinks }
     ensures tapes { (spans_in parts.new).firsts.tapes ≡ (spans_in parts.old).firsts.tapes }
     ensures own { let old = plant_of parts.old in let n = node_at (net_of B.meaning old.graph) block.0 in
-        IsSome n.meaning.own → slice_index_or (spans_in parts.new).firsts.settings block.0 0 ≡ taken_by n 0 (fired old.state block.0) }
+        IsSome n.meaning.own → slice_index_or (spans_in parts.new).firsts.settings block.0 0
+        ≡ taken_by n 0 (fired old.state block.0) }
     ensures alone { (spans_in parts.new).own ≡ (spans_in parts.old).own }
-    ensures others { (a : ℕ) → (a ≡ block.0 → ⊥) → slice_index_or (spans_in parts.new).firsts.settings a 0 ≡ slice_index_or (spans_in parts.old).firsts.settings a 0 }
+    ensures others { (a : ℕ) → (a ≡ block.0 → ⊥) → slice_index_or (spans_in parts.new).firsts.settings a 0
+        ≡ slice_index_or (spans_in parts.old).firsts.settings a 0 }
 {
     parts.graph.recall();
     let taken = parts

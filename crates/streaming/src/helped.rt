@@ -33,7 +33,8 @@ pub(crate) fn helped_round<B: Block, H: Helpers<Job<B>, Worked<B>>>(
     requires some { 1 ≤ max }
     ensures led { IsLedOn B.meaning max parts.old parts.new }
     ensures idle { is_idle (plant_of parts.new).state ≡ true }
-    ensures moved { let old = plant_of parts.old in IfOk result (HasMoved (net_of B.meaning old.graph) old.capacities old.state (plant_of parts.new).state) }
+    ensures moved { let old = plant_of parts.old in IfOk result (HasMoved (net_of B.meaning old.graph) old.capacities
+        old.state (plant_of parts.new).state) }
 {
     parts.graph.recall();
     let first = max.min(helpers.begins_round().max(1));
@@ -232,7 +233,8 @@ fn give_up<B: Block>(parts: &mut Parts<B>, block: BlockId)
     requires block { block.0 < length (arc_value parts.old.graph).blocks }
     ensures led { (most : ℕ) → IsLedOn B.meaning most parts.old parts.new }
     ensures own { (progress_at (plant_of parts.new).state.progress block.0).claimed ≡ 0 }
-    ensures others { (b : ℕ) → (b ≡ block.0 → ⊥) → progress_at (plant_of parts.new).state.progress b ≡ progress_at (plant_of parts.old).state.progress b }
+    ensures others { (b : ℕ) → (b ≡ block.0 → ⊥) → progress_at (plant_of parts.new).state.progress b
+        ≡ progress_at (plant_of parts.old).state.progress b }
 {
     parts.graph.recall();
     if 0 < parts.firings.progress(block).claimed {

@@ -42,7 +42,8 @@ pub(crate) fn read_levels<B: Block>(parts: &Parts<B>, block: BlockId) -> Result<
 fn writer_of_first<B: Block>(parts: &Parts<B>, block: BlockId) -> Option<BlockId>
     requires right { IsRight B.meaning parts.now }
     requires block { block.0 < length (arc_value parts.now.graph).blocks }
-    ensures { option_map (λ writer. writer.0) result ≡ first_writer (writers_of (net_of B.meaning (plant_of parts.now).graph) block.0) }
+    ensures { option_map (λ writer. writer.0) result ≡ first_writer (writers_of
+        (net_of B.meaning (plant_of parts.now).graph) block.0) }
 {
     parts.graph.recall();
     match parts.graph.inputs(block).first() {
@@ -55,7 +56,8 @@ fn writer_of_first<B: Block>(parts: &Parts<B>, block: BlockId) -> Option<BlockId
 fn of_source<B: Block>(parts: &Parts<B>, block: BlockId) -> Levels
     requires right { IsRight B.meaning parts.now }
     requires block { block.0 < length (arc_value parts.now.graph).blocks }
-    ensures { let plant = plant_of parts.now in result ≡ levels_by (net_of B.meaning plant.graph) plant.state block.0 None }
+    ensures { let plant = plant_of parts.now in result ≡ levels_by (net_of B.meaning plant.graph) plant.state block.0
+        None }
 {
     parts.graph.recall();
     let given = parts.firings.progress(block).firings;
@@ -72,7 +74,8 @@ fn of_reader<B: Block>(parts: &Parts<B>, block: BlockId, writer: BlockId) -> Lev
     requires right { IsRight B.meaning parts.now }
     requires block { block.0 < length (arc_value parts.now.graph).blocks }
     requires writes { first_writer (writers_of (net_of B.meaning (plant_of parts.now).graph) block.0) ≡ Some writer.0 }
-    ensures { let plant = plant_of parts.now in result ≡ levels_by (net_of B.meaning plant.graph) plant.state block.0 (Some writer.0) }
+    ensures { let plant = plant_of parts.now in result ≡ levels_by (net_of B.meaning plant.graph) plant.state block.0
+        (Some writer.0) }
 {
     parts.graph.recall();
     let fired = parts.firings.progress(block).firings;
@@ -88,7 +91,8 @@ fn of_reader<B: Block>(parts: &Parts<B>, block: BlockId, writer: BlockId) -> Lev
 fn given_by<B: Block>(parts: &Parts<B>, block: BlockId) -> u64
     requires right { IsRight B.meaning parts.now }
     requires block { block.0 < length (arc_value parts.now.graph).blocks }
-    ensures { let plant = plant_of parts.now in result ≡ given_by (node_at (net_of B.meaning plant.graph) block.0) (fired plant.state block.0) }
+    ensures { let plant = plant_of parts.now in result ≡ given_by (node_at (net_of B.meaning plant.graph) block.0)
+        (fired plant.state block.0) }
 {
     parts.graph.recall();
     let fired = parts.firings.progress(block).firings;

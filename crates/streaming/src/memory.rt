@@ -15,16 +15,23 @@ use flowgraph::{Block, BlockId};
 use plant::Parts;
 use stream_model::Role;
 
-/// How many items are in memory of what a source was fed, or of what a sink has taken: all that are kept, and at most twice as many.
+/// How many items are in memory of what a source was fed, or of what a sink has taken: all that are kept, and at most
+/// twice as many.
 pub(crate) fn items_in_memory<B: Block>(parts: &Parts<B>, block: BlockId) -> usize
     requires { IsRight B.meaning parts.now }
-    ensures source { let plant = plant_of parts.now in let net = net_of B.meaning plant.graph in block.0 < length net.nodes → is_source (role_at net block.0) ≡ true →
-        result ≤ 2 * (length (handed_at plant.state.handed block.0).tape - slice_index_or (spans_in parts.now).firsts.tapes block.0 0) }
-    ensures sink { let plant = plant_of parts.now in let net = net_of B.meaning plant.graph in block.0 < length net.nodes → is_keeper (role_at net block.0) ≡ true →
+    ensures source { let plant = plant_of parts.now in let net = net_of B.meaning plant.graph in block.0 < length
+        net.nodes → is_source (role_at net block.0) ≡ true →
+        result ≤ 2 * (length (handed_at plant.state.handed block.0).tape - slice_index_or
+        (spans_in parts.now).firsts.tapes block.0 0) }
+    ensures sink { let plant = plant_of parts.now in let net = net_of B.meaning plant.graph in block.0 < length
+        net.nodes → is_keeper (role_at net block.0) ≡ true →
         result ≤ 2 * (fired plant.state block.0 - slice_index_or (spans_in parts.now).firsts.sinks block.0 0) }
-    ensures of_source { let plant = plant_of parts.now in let net = net_of B.meaning plant.graph in block.0 < length net.nodes → is_source (role_at net block.0) ≡ true →
-        length (handed_at plant.state.handed block.0).tape - slice_index_or (spans_in parts.now).firsts.tapes block.0 0 ≤ result }
-    ensures of_sink { let plant = plant_of parts.now in let net = net_of B.meaning plant.graph in block.0 < length net.nodes → is_keeper (role_at net block.0) ≡ true →
+    ensures of_source { let plant = plant_of parts.now in let net = net_of B.meaning plant.graph in block.0 < length
+        net.nodes → is_source (role_at net block.0) ≡ true →
+        length (handed_at plant.state.handed block.0).tape - slice_index_or (spans_in parts.now).firsts.tapes block.0
+        0 ≤ result }
+    ensures of_sink { let plant = plant_of parts.now in let net = net_of B.meaning plant.graph in block.0 < length
+        net.nodes → is_keeper (role_at net block.0) ≡ true →
         fired plant.state block.0 - slice_index_or (spans_in parts.now).firsts.sinks block.0 0 ≤ result }
 {
     parts.graph.recall();
@@ -42,10 +49,14 @@ pub(crate) fn items_in_memory<B: Block>(parts: &Parts<B>, block: BlockId) -> usi
 /// How many of their tags are in memory: just those on items that are kept.
 pub(crate) fn tags_in_memory<B: Block>(parts: &Parts<B>, block: BlockId) -> usize
     requires { IsRight B.meaning parts.now }
-    ensures source { let plant = plant_of parts.now in let net = net_of B.meaning plant.graph in block.0 < length net.nodes → is_source (role_at net block.0) ≡ true →
-        result ≡ length (tags_from (slice_index_or (spans_in parts.now).firsts.tapes block.0 0) (handed_at plant.state.handed block.0).tags) }
-    ensures sink { let plant = plant_of parts.now in let net = net_of B.meaning plant.graph in block.0 < length net.nodes → is_keeper (role_at net block.0) ≡ true →
-        result ≡ length (tags_within (slice_index_or (spans_in parts.now).firsts.sinks block.0 0) (fired plant.state block.0) (tags_into net plant.state block.0)) }
+    ensures source { let plant = plant_of parts.now in let net = net_of B.meaning plant.graph in block.0 < length
+        net.nodes → is_source (role_at net block.0) ≡ true →
+        result ≡ length (tags_from (slice_index_or (spans_in parts.now).firsts.tapes block.0 0)
+        (handed_at plant.state.handed block.0).tags) }
+    ensures sink { let plant = plant_of parts.now in let net = net_of B.meaning plant.graph in block.0 < length
+        net.nodes → is_keeper (role_at net block.0) ≡ true →
+        result ≡ length (tags_within (slice_index_or (spans_in parts.now).firsts.sinks block.0 0)
+        (fired plant.state block.0) (tags_into net plant.state block.0)) }
 {
     parts.graph.recall();
     let at = block.0 as usize;
@@ -63,11 +74,14 @@ pub(crate) fn tags_in_memory<B: Block>(parts: &Parts<B>, block: BlockId) -> usiz
 /// before the first item that may read them.
 pub(crate) fn settings_in_memory<B: Block>(parts: &Parts<B>, block: BlockId) -> usize
     requires { IsRight B.meaning parts.now }
-    ensures read { let plant = plant_of parts.now in let net = net_of B.meaning plant.graph in let made = (handed_at plant.state.handed block.0).settings in
+    ensures read { let plant = plant_of parts.now in let net = net_of B.meaning plant.graph in let
+        made = (handed_at plant.state.handed block.0).settings in
         (own : model.Value) → block.0 < length net.nodes → (node_at net block.0).meaning.own ≡ Some own →
-        length (kept_from (model.setting_at own made (slice_index_or (spans_in parts.now).firsts.settings block.0 0)).at made) ≤ result }
+        length (kept_from (model.setting_at own made (slice_index_or (spans_in parts.now).firsts.settings block.0 0)).at
+        made) ≤ result }
     ensures made { result ≤ length (handed_at (plant_of parts.now).state.handed block.0).settings }
-    ensures past { result ≤ 1 + length (kept_from (slice_index_or (spans_in parts.now).firsts.settings block.0 0) (handed_at (plant_of parts.now).state.handed block.0).settings) }
+    ensures past { result ≤ 1 + length (kept_from (slice_index_or (spans_in parts.now).firsts.settings block.0 0)
+        (handed_at (plant_of parts.now).state.handed block.0).settings) }
 {
     let Some(intake) = parts.stores.handed.get(block.0 as usize) else {
         return 0;

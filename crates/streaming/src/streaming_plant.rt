@@ -49,7 +49,8 @@ use std::fmt;
 use std::marker::Model;
 use tags::Tag;
 
-/// A flowgraph that runs in constant memory, for as long as it is fed. A contract sees it as a plant that forgets nothing, with how much is kept.
+/// A flowgraph that runs in constant memory, for as long as it is fed. A contract sees it as a plant that forgets
+/// nothing, with how much is kept.
 ///
 /// In memory are the buffers, what was fed and not taken by its source, and what a sink took and was not drained.
 /// Memory is at most twice what is still needed. The memory of the longest piece so far stays for what comes.
@@ -130,7 +131,9 @@ impl<B: Block> StreamingPlant<B> {
         items: &Items,
         marks: &[Mark],
     ) -> Result<Fed, PlantFault>
-        ensures answered { Answered (feed_of (net_of B.meaning self.old.plant.graph) self.old.plant.state source.0 (type_of items.now) (numbers_of items.now) (map mark_of marks.now)) self.old.plant self.new.plant (reply_of (λ f. machine.Fed f.0) result) }
+        ensures answered { Answered (feed_of (net_of B.meaning self.old.plant.graph) self.old.plant.state source.0
+            (type_of items.now) (numbers_of items.now) (map mark_of marks.now)) self.old.plant self.new.plant
+            (reply_of (λ f. machine.Fed f.0) result) }
         ensures kept { self.new.kept ≡ self.old.kept }
     {
         self.parts.feed(source, items, marks)
@@ -146,7 +149,9 @@ impl<B: Block> StreamingPlant<B> {
         numbers: &[i64],
         marks: &[Mark],
     ) -> Result<Fed, PlantFault>
-        ensures answered { Answered (feed_numbers (net_of B.meaning self.old.plant.graph) self.old.plant.state source.0 numbers.now (map mark_of marks.now)) self.old.plant self.new.plant (reply_of (λ f. machine.Fed f.0) result) }
+        ensures answered { Answered (feed_numbers (net_of B.meaning self.old.plant.graph) self.old.plant.state source.0
+            numbers.now (map mark_of marks.now)) self.old.plant self.new.plant
+            (reply_of (λ f. machine.Fed f.0) result) }
         ensures kept { self.new.kept ≡ self.old.kept }
     {
         self.parts.feed_numbers(alloc, source, numbers, marks)
@@ -155,23 +160,26 @@ impl<B: Block> StreamingPlant<B> {
     /// Closes a source: nothing more comes. It returns how many items the source was fed. Refusals, in this order:
     /// `NoSuchBlock`, `NotSource`, and `Closed` if it was closed before. It takes no memory.
     pub fn close(&mut self, source: BlockId) -> Result<Closed, PlantFault>
-        ensures answered { AnsweredAlways (close_of (net_of B.meaning self.old.plant.graph) self.old.plant.state source.0) self.old.plant self.new.plant (reply_of (λ c. machine.Closed c.0) result) }
+        ensures answered { AnsweredAlways (close_of (net_of B.meaning self.old.plant.graph) self.old.plant.state
+            source.0) self.old.plant self.new.plant (reply_of (λ c. machine.Closed c.0) result) }
         ensures kept { self.new.kept ≡ self.old.kept }
     {
         self.parts.close(source)
     }
 
-    /// Sets the value of a block's setting from item `at` of its first input on, or from the first that is neither taken nor claimed, as
-    /// `Plant::set` does, with the same refusals.
+    /// Sets the value of a block's setting from item `at` of its first input on, or from the first that is neither
+    /// taken nor claimed, as `Plant::set` does, with the same refusals.
     pub fn set(
         &mut self,
         block: BlockId,
         at: Option<u64>,
         value: Value,
     ) -> Result<Taken, PlantFault>
-        ensures replaces { (place : ℕ) → (set_of (net_of B.meaning self.old.plant.graph) self.old.plant.state block.0 at (value_of value)).0 ≡ machine.Taken place →
+        ensures replaces { (place : ℕ) → (set_of (net_of B.meaning self.old.plant.graph) self.old.plant.state block.0 at
+            (value_of value)).0 ≡ machine.Taken place →
             Any (λ h. h.at ≡ place) (handed_at self.old.plant.state.handed block.0).settings → IsOk result }
-        ensures answered { Answered (set_of (net_of B.meaning self.old.plant.graph) self.old.plant.state block.0 at (value_of value)) self.old.plant self.new.plant (reply_of (λ t. machine.Taken t.0) result) }
+        ensures answered { Answered (set_of (net_of B.meaning self.old.plant.graph) self.old.plant.state block.0 at
+            (value_of value)) self.old.plant self.new.plant (reply_of (λ t. machine.Taken t.0) result) }
         ensures kept { self.new.kept ≡ self.old.kept }
     {
         self.parts.set(block, at, value)
@@ -180,7 +188,8 @@ impl<B: Block> StreamingPlant<B> {
     /// Like `Plant::step`. What a source takes by it stays in memory until `release` or `settle`.
     pub fn step(&mut self, alloc: Global, block: BlockId, max: u32) -> Result<Step, PlantFault>
         requires { 1 ≤ max }
-        ensures answered { Answered (step_of (net_of B.meaning self.old.plant.graph) self.old.plant.capacities self.old.plant.state block.0 max) self.old.plant self.new.plant (reply_of step_reply result) }
+        ensures answered { Answered (step_of (net_of B.meaning self.old.plant.graph) self.old.plant.capacities
+            self.old.plant.state block.0 max) self.old.plant self.new.plant (reply_of step_reply result) }
         ensures kept { self.new.kept ≡ self.old.kept }
     {
         self.parts.graph.recall();
@@ -202,8 +211,10 @@ impl<B: Block> StreamingPlant<B> {
     pub fn settle(&mut self, alloc: Global, max: u32) -> Result<Settled, AllocError>
         requires { 1 ≤ max }
         ensures same { self.new.plant ≡ record self.old.plant { state = self.new.plant.state } }
-        ensures steps { StepsLead (net_of B.meaning self.old.plant.graph) self.old.plant.capacities max self.old.plant.state self.new.plant.state }
-        ensures settled { IfOk result (HasSettled (net_of B.meaning self.new.plant.graph) self.new.plant.capacities self.new.plant.state) }
+        ensures steps { StepsLead (net_of B.meaning self.old.plant.graph) self.old.plant.capacities max
+            self.old.plant.state self.new.plant.state }
+        ensures settled { IfOk result (HasSettled (net_of B.meaning self.new.plant.graph) self.new.plant.capacities
+            self.new.plant.state) }
         ensures whole { IfOk result (HoldsSettled (net_of B.meaning self.new.plant.graph) self.new.plant.state) }
         ensures sinks { self.new.kept.sinks ≡ self.old.kept.sinks }
         ensures taken { IfOk result (λ _. KeepsNoTaken (net_of B.meaning self.new.plant.graph) self.new) }
@@ -214,13 +225,15 @@ impl<B: Block> StreamingPlant<B> {
     }
 
     /// Steps each block once, writers before readers, at most `max` firings each, forgets what sources have taken, and
-    /// returns whether a block moved on. It is for a caller who has more to do than to settle. If no block moved on, the
-    /// plant is quiet. If memory runs out it stops, and the plant stays where its steps took it.
+    /// returns whether a block moved on. It is for a caller who has more to do than to settle. If no block moved on,
+    /// the plant is quiet. If memory runs out it stops, and the plant stays where its steps took it.
     pub fn round(&mut self, alloc: Global, max: u32) -> Result<bool, AllocError>
         requires { 1 ≤ max }
         ensures same { self.new.plant ≡ record self.old.plant { state = self.new.plant.state } }
-        ensures steps { StepsLead (net_of B.meaning self.old.plant.graph) self.old.plant.capacities max self.old.plant.state self.new.plant.state }
-        ensures moved { IfOk result (HasMoved (net_of B.meaning self.new.plant.graph) self.new.plant.capacities self.old.plant.state self.new.plant.state) }
+        ensures steps { StepsLead (net_of B.meaning self.old.plant.graph) self.old.plant.capacities max
+            self.old.plant.state self.new.plant.state }
+        ensures moved { IfOk result (HasMoved (net_of B.meaning self.new.plant.graph) self.new.plant.capacities
+            self.old.plant.state self.new.plant.state) }
         ensures sinks { self.new.kept.sinks ≡ self.old.kept.sinks }
         ensures taken { IfOk result (λ _. KeepsNoTaken (net_of B.meaning self.new.plant.graph) self.new) }
     {
@@ -239,7 +252,8 @@ impl<B: Block> StreamingPlant<B> {
     ) -> Result<bool, AllocError>
         requires { 1 ≤ max }
         ensures worked { HasWorked B.meaning max self.old.plant self.new.plant }
-        ensures moved { IfOk result (HasMoved (net_of B.meaning self.new.plant.graph) self.new.plant.capacities self.old.plant.state self.new.plant.state) }
+        ensures moved { IfOk result (HasMoved (net_of B.meaning self.new.plant.graph) self.new.plant.capacities
+            self.old.plant.state self.new.plant.state) }
         ensures sinks { self.new.kept.sinks ≡ self.old.kept.sinks }
         ensures taken { IfOk result (λ _. KeepsNoTaken (net_of B.meaning self.new.plant.graph) self.new) }
     {
@@ -252,22 +266,31 @@ impl<B: Block> StreamingPlant<B> {
     /// `NoSuchBlock`, `NotSink`, `Memory`. An `Err` changes nothing. A piece that says done is of a sink that took its
     /// whole stream.
     pub fn drain(&mut self, alloc: Global, sink: BlockId, max: u64) -> Result<Piece, PlantFault>
-        ensures answered { AnsweredBy (read_of (net_of B.meaning self.old.plant.graph) self.old.plant.state sink.0 (drained self.old sink.0) max) (reply_of piece_reply result) }
-        ensures typed { IfOk result (λ piece. type_of piece.items ≡ (node_at (net_of B.meaning self.old.plant.graph) sink.0).meaning.inputs.item) }
-        ensures joins { IfOk result (λ piece. GoesOn (net_of B.meaning self.old.plant.graph) self.old.plant.state sink.0 (drained self.old sink.0) (numbers_of piece.items) (map tag_of piece.tags.items)) }
-        ensures drains { IfOk result (λ piece. HasDrainedTo self.old self.new sink.0 (drained self.old sink.0 + length (numbers_of piece.items))) }
+        ensures answered { AnsweredBy (read_of (net_of B.meaning self.old.plant.graph) self.old.plant.state sink.0
+            (drained self.old sink.0) max) (reply_of piece_reply result) }
+        ensures typed { IfOk result (λ piece. type_of piece.items ≡ (node_at (net_of B.meaning self.old.plant.graph)
+            sink.0).meaning.inputs.item) }
+        ensures joins { IfOk result (λ piece. GoesOn (net_of B.meaning self.old.plant.graph) self.old.plant.state sink.0
+            (drained self.old sink.0) (numbers_of piece.items) (map tag_of piece.tags.items)) }
+        ensures drains { IfOk result (λ piece. HasDrainedTo self.old self.new sink.0
+            (drained self.old sink.0 + length (numbers_of piece.items))) }
         ensures err { OnErr result (self.new ≡ self.old) }
-        ensures whole { IfOk result (λ piece. piece.done ≡ true → HoldsAll (net_of B.meaning self.old.plant.graph) self.old.plant.state sink.0) }
+        ensures whole { IfOk result (λ piece. piece.done ≡ true → HoldsAll (net_of B.meaning self.old.plant.graph)
+            self.old.plant.state sink.0) }
     {
         drain(&mut self.parts, alloc, sink, max)
     }
 
     /// Copies what `drain` would take away, and leaves it there. Refusals are those of `drain`.
     pub fn peek(&self, alloc: Global, sink: BlockId, max: u64) -> Result<Piece, PlantFault>
-        ensures answered { AnsweredBy (read_of (net_of B.meaning self.now.plant.graph) self.now.plant.state sink.0 (drained self.now sink.0) max) (reply_of piece_reply result) }
-        ensures typed { IfOk result (λ piece. type_of piece.items ≡ (node_at (net_of B.meaning self.now.plant.graph) sink.0).meaning.inputs.item) }
-        ensures joins { IfOk result (λ piece. GoesOn (net_of B.meaning self.now.plant.graph) self.now.plant.state sink.0 (drained self.now sink.0) (numbers_of piece.items) (map tag_of piece.tags.items)) }
-        ensures whole { IfOk result (λ piece. piece.done ≡ true → HoldsAll (net_of B.meaning self.now.plant.graph) self.now.plant.state sink.0) }
+        ensures answered { AnsweredBy (read_of (net_of B.meaning self.now.plant.graph) self.now.plant.state sink.0
+            (drained self.now sink.0) max) (reply_of piece_reply result) }
+        ensures typed { IfOk result (λ piece. type_of piece.items ≡ (node_at (net_of B.meaning self.now.plant.graph)
+            sink.0).meaning.inputs.item) }
+        ensures joins { IfOk result (λ piece. GoesOn (net_of B.meaning self.now.plant.graph) self.now.plant.state sink.0
+            (drained self.now sink.0) (numbers_of piece.items) (map tag_of piece.tags.items)) }
+        ensures whole { IfOk result (λ piece. piece.done ≡ true → HoldsAll (net_of B.meaning self.now.plant.graph)
+            self.now.plant.state sink.0) }
     {
         peek(&self.parts, alloc, sink, max)
     }
@@ -276,12 +299,15 @@ impl<B: Block> StreamingPlant<B> {
     /// order: `NoSuchBlock`, `NotSink`. An `Err` changes nothing. It takes no memory.
     pub fn consume(&mut self, sink: BlockId, max: u64) -> Result<Appended, PlantFault>
         ensures absent { length (net_of B.meaning self.old.plant.graph).nodes ≤ sink.0 → result ≡ Err NoSuchBlock }
-        ensures no_sink { let net = net_of B.meaning self.old.plant.graph in sink.0 < length net.nodes → is_keeper (role_at net sink.0) ≡ false → result ≡ Err NotSink }
-        ensures sink { let net = net_of B.meaning self.old.plant.graph in sink.0 < length net.nodes → is_keeper (role_at net sink.0) ≡ true → IsOk result }
+        ensures no_sink { let net = net_of B.meaning self.old.plant.graph in sink.0 < length net.nodes
+            → is_keeper (role_at net sink.0) ≡ false → result ≡ Err NotSink }
+        ensures sink { let net = net_of B.meaning self.old.plant.graph in sink.0 < length net.nodes
+            → is_keeper (role_at net sink.0) ≡ true → IsOk result }
         ensures at { IfOk result (IsAtSink self.old.plant.state sink.0 (drained self.old sink.0)) }
         ensures drains { IfOk result (λ d. HasDrainedTo self.old self.new sink.0 (end_of d max)) }
         ensures err { OnErr result (self.new ≡ self.old) }
-        ensures whole { IfOk result (λ d. d.done ≡ true → HoldsAll (net_of B.meaning self.old.plant.graph) self.old.plant.state sink.0) }
+        ensures whole { IfOk result (λ d. d.done ≡ true → HoldsAll (net_of B.meaning self.old.plant.graph)
+            self.old.plant.state sink.0) }
     {
         consume(&mut self.parts, sink, max)
     }
@@ -296,26 +322,34 @@ impl<B: Block> StreamingPlant<B> {
         items: &mut Items,
         tags: &mut Vec<Tag>,
     ) -> Result<Appended, PlantFault>
-        ensures refused { MayBeRefused (drain_fault (net_of B.meaning self.old.plant.graph) sink.0 (type_of items.old)) result }
+        ensures refused { MayBeRefused (drain_fault (net_of B.meaning self.old.plant.graph) sink.0 (type_of items.old))
+            result }
         ensures succeeds { let net = net_of B.meaning self.old.plant.graph in
             drain_fault net sink.0 (type_of items.old) ≡ None →
-            HasRoom net self.old.plant.state sink.0 (drained self.old sink.0) max (spare_of items.old) (vec_len tags.old) (vec_capacity tags.old) → IsOk result }
+            HasRoom net self.old.plant.state sink.0 (drained self.old sink.0) max (spare_of items.old)
+            (vec_len tags.old) (vec_capacity tags.old) → IsOk result }
         ensures at { IfOk result (IsAtSink self.old.plant.state sink.0 (drained self.old sink.0)) }
-        ensures items { IfOk result (λ d. numbers_of items.new ≡ numbers_of items.old ++ items_taken (net_of B.meaning self.old.plant.graph) self.old.plant.state sink.0 d max) }
-        ensures tags { IfOk result (λ d. map tag_of tags.new.items ≡ map tag_of tags.old.items ++ tags_taken (net_of B.meaning self.old.plant.graph) self.old.plant.state sink.0 d max) }
+        ensures items { IfOk result (λ d. numbers_of items.new ≡ numbers_of items.old
+            ++ items_taken (net_of B.meaning self.old.plant.graph) self.old.plant.state sink.0 d max) }
+        ensures tags { IfOk result (λ d. map tag_of tags.new.items ≡ map tag_of tags.old.items
+            ++ tags_taken (net_of B.meaning self.old.plant.graph) self.old.plant.state sink.0 d max) }
         ensures item_type { type_of items.new ≡ type_of items.old }
         ensures joins { let net = net_of B.meaning self.old.plant.graph in
-            IfOk result (λ d. GoesOn net self.old.plant.state sink.0 d.from (items_taken net self.old.plant.state sink.0 d max) (tags_taken net self.old.plant.state sink.0 d max)) }
+            IfOk result (λ d. GoesOn net self.old.plant.state sink.0 d.from
+            (items_taken net self.old.plant.state sink.0 d max) (tags_taken net self.old.plant.state sink.0 d max)) }
         ensures drains { IfOk result (λ d. HasDrainedTo self.old self.new sink.0 (end_of d max)) }
-        ensures err { OnErr result ((self.new ≡ self.old) × (numbers_of items.new ≡ numbers_of items.old) × (tags.new.items ≡ tags.old.items)) }
-        ensures whole { IfOk result (λ d. d.done ≡ true → HoldsAll (net_of B.meaning self.old.plant.graph) self.old.plant.state sink.0) }
+        ensures err { OnErr result ((self.new ≡ self.old) × (numbers_of items.new ≡ numbers_of items.old)
+            × (tags.new.items ≡ tags.old.items)) }
+        ensures whole { IfOk result (λ d. d.done ≡ true → HoldsAll (net_of B.meaning self.old.plant.graph)
+            self.old.plant.state sink.0) }
     {
         drain_into(&mut self.parts, sink, max, items, tags)
     }
 
     /// What a step of a block would come to, or what it waits for, as `Plant::need` tells it. It takes no memory.
     pub fn need(&self, block: BlockId) -> Result<BlockNeed, PlantFault>
-        ensures { wait_in result ≡ need_of (net_of B.meaning self.now.plant.graph) self.now.plant.capacities self.now.plant.state block.0 }
+        ensures { wait_in result ≡ need_of (net_of B.meaning self.now.plant.graph) self.now.plant.capacities
+            self.now.plant.state block.0 }
     {
         self.parts.need(block)
     }
@@ -339,7 +373,8 @@ impl<B: Block> StreamingPlant<B> {
 
     /// The block that the waits lead to, as `Plant::ring` tells it; none if all are done. It takes no memory.
     pub fn ring(&self) -> Option<BlockId>
-        ensures { option_map (λ block. block.0) result ≡ ring_of (net_of B.meaning self.now.plant.graph) self.now.plant.capacities self.now.plant.state }
+        ensures { option_map (λ block. block.0) result ≡ ring_of (net_of B.meaning self.now.plant.graph)
+            self.now.plant.capacities self.now.plant.state }
     {
         self.parts.ring()
     }
@@ -347,13 +382,17 @@ impl<B: Block> StreamingPlant<B> {
     /// How many items are in memory of what a source was fed, or of what a sink has taken: all that are kept, and at
     /// most twice as many. Any other block has none; its outputs have buffers.
     pub fn items_in_memory(&self, block: BlockId) -> usize
-        ensures source { let net = net_of B.meaning self.now.plant.graph in block.0 < length net.nodes → is_source (role_at net block.0) ≡ true →
+        ensures source { let net = net_of B.meaning self.now.plant.graph in block.0 < length net.nodes
+            → is_source (role_at net block.0) ≡ true →
             result ≤ 2 * (length (handed_at self.now.plant.state.handed block.0).tape - tape_kept self.now block.0) }
-        ensures sink { let net = net_of B.meaning self.now.plant.graph in block.0 < length net.nodes → is_keeper (role_at net block.0) ≡ true →
+        ensures sink { let net = net_of B.meaning self.now.plant.graph in block.0 < length net.nodes
+            → is_keeper (role_at net block.0) ≡ true →
             result ≤ 2 * (fired self.now.plant.state block.0 - drained self.now block.0) }
-        ensures of_source { let net = net_of B.meaning self.now.plant.graph in block.0 < length net.nodes → is_source (role_at net block.0) ≡ true →
+        ensures of_source { let net = net_of B.meaning self.now.plant.graph in block.0 < length net.nodes
+            → is_source (role_at net block.0) ≡ true →
             length (handed_at self.now.plant.state.handed block.0).tape - tape_kept self.now block.0 ≤ result }
-        ensures of_sink { let net = net_of B.meaning self.now.plant.graph in block.0 < length net.nodes → is_keeper (role_at net block.0) ≡ true →
+        ensures of_sink { let net = net_of B.meaning self.now.plant.graph in block.0 < length net.nodes
+            → is_keeper (role_at net block.0) ≡ true →
             fired self.now.plant.state block.0 - drained self.now block.0 ≤ result }
     {
         items_in_memory(&self.parts, block)
@@ -361,10 +400,14 @@ impl<B: Block> StreamingPlant<B> {
 
     /// How many tags are in memory of what a source was fed or a sink has taken: just those on kept items.
     pub fn tags_in_memory(&self, block: BlockId) -> usize
-        ensures source { let net = net_of B.meaning self.now.plant.graph in block.0 < length net.nodes → is_source (role_at net block.0) ≡ true →
-            result ≡ length (tags_from (tape_kept self.now block.0) (handed_at self.now.plant.state.handed block.0).tags) }
-        ensures sink { let net = net_of B.meaning self.now.plant.graph in block.0 < length net.nodes → is_keeper (role_at net block.0) ≡ true →
-            result ≡ length (tags_within (drained self.now block.0) (fired self.now.plant.state block.0) (tags_into net self.now.plant.state block.0)) }
+        ensures source { let net = net_of B.meaning self.now.plant.graph in block.0 < length net.nodes
+            → is_source (role_at net block.0) ≡ true →
+            result ≡ length (tags_from (tape_kept self.now block.0) (handed_at self.now.plant.state.handed
+            block.0).tags) }
+        ensures sink { let net = net_of B.meaning self.now.plant.graph in block.0 < length net.nodes
+            → is_keeper (role_at net block.0) ≡ true →
+            result ≡ length (tags_within (drained self.now block.0) (fired self.now.plant.state block.0)
+            (tags_into net self.now.plant.state block.0)) }
     {
         tags_in_memory(&self.parts, block)
     }
@@ -372,11 +415,13 @@ impl<B: Block> StreamingPlant<B> {
     /// How many settings of a block are in memory: all that may still be read, no more than were made, and at most one
     /// made before the first item that may read them: the one in force there at the last forgetting.
     pub fn settings_in_memory(&self, block: BlockId) -> usize
-        ensures read { let net = net_of B.meaning self.now.plant.graph in let made = (handed_at self.now.plant.state.handed block.0).settings in
+        ensures read { let net = net_of B.meaning self.now.plant.graph in let
+            made = (handed_at self.now.plant.state.handed block.0).settings in
             (own : model.Value) → block.0 < length net.nodes → (node_at net block.0).meaning.own ≡ Some own →
             length (kept_from (model.setting_at own made (settings_kept self.now block.0)).at made) ≤ result }
         ensures made { result ≤ length (handed_at self.now.plant.state.handed block.0).settings }
-        ensures past { result ≤ 1 + length (kept_from (settings_kept self.now block.0) (handed_at self.now.plant.state.handed block.0).settings) }
+        ensures past { result ≤ 1 + length (kept_from (settings_kept self.now block.0)
+            (handed_at self.now.plant.state.handed block.0).settings) }
     {
         settings_in_memory(&self.parts, block)
     }
@@ -390,9 +435,11 @@ impl<B: Block> StreamingPlant<B> {
         ensures sound { Sound (net_of B.meaning self.now.plant.graph) self.now.plant.capacities self.now.plant.state }
         ensures idle { is_idle self.now.plant.state ≡ true }
         ensures sinks { length self.now.kept.sinks ≡ length (net_of B.meaning self.now.plant.graph).nodes }
-        ensures taken { let net = net_of B.meaning self.now.plant.graph in (b : ℕ) → b < length net.nodes → is_keeper (role_at net b) ≡ true →
+        ensures taken { let net = net_of B.meaning self.now.plant.graph in (b : ℕ) → b < length net.nodes
+            → is_keeper (role_at net b) ≡ true →
             drained self.now b ≤ fired self.now.plant.state b }
-        ensures stays { let net = net_of B.meaning self.now.plant.graph in (b : ℕ) → b < length net.nodes → is_keeper (role_at net b) ≡ true →
+        ensures stays { let net = net_of B.meaning self.now.plant.graph in (b : ℕ) → b < length net.nodes
+            → is_keeper (role_at net b) ≡ true →
             StaysBegun net self.now.plant.capacities self.now.plant.state b (drained self.now b) }
     {
         self.parts.graph.recall();

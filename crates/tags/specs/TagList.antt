@@ -18,7 +18,8 @@ tags_from before ts = filter (λ t. nat_le before t.offset) ts
 abbrev pub kept_of : List Tag → ℕ → List model.Tag
 kept_of row gone = map tag_of (drop gone row)
 
--- a row with its capacity, of which the first tags are gone: they are no more than those that are kept, and these fill at most half the capacity
+-- a row with its capacity, of which the first tags are gone: they are no more than those that are kept, and these fill
+-- at most half the capacity
 pub record IsRow (row : List Tag) (len capacity gone : ℕ) : Type 0 where
   pub ordered : IsOrdered (kept_of row gone)
   pub whole : len ≡ length row

@@ -10,11 +10,12 @@ use items::Tag;
 use std::alloc::{AllocError, Global};
 use std::marker::Model;
 
-// How many tags at most are put in one after the other: moving the tags behind each of them costs less than sorting these.
+// How many tags at most are put in one after the other: moving the tags behind each of them costs less than sorting
+// these.
 const FEW: usize = 16;
 
-/// The tags of a stream, ordered by offset, key, value and source. Duplicates are kept. A contract sees the list, and how many
-/// more tags fit before memory is needed.
+/// The tags of a stream, ordered by offset, key, value and source. Duplicates are kept. A contract sees the list, and
+/// how many more tags fit before memory is needed.
 #[derive(Debug, Drop)]
 pub struct Tags {
     // The tags, behind those that are gone. Half of the room is for these, so that they may wait until they are as many
@@ -72,7 +73,8 @@ impl Tags {
         &self.row[self.gone..]
     }
 
-    /// Makes room for `n` more tags, with new memory where fewer fit. It fails only where the allocator refuses, and then changes nothing.
+    /// Makes room for `n` more tags, with new memory where fewer fit. It fails only where the allocator refuses, and
+    /// then changes nothing.
     pub fn reserve(&mut self, n: usize) -> Result<(), AllocError>
         ensures tags { self.new.tags ≡ self.old.tags }
         ensures ok { OnOk result (n ≤ self.new.spare) }
@@ -89,7 +91,8 @@ impl Tags {
         self.row.reserve(room - self.row.len())
     }
 
-    /// Adds a tag at its place, where there is room. It takes no memory. The common case, a tag that goes last, takes one comparison.
+    /// Adds a tag at its place, where there is room. It takes no memory. The common case, a tag that goes last, takes
+    /// one comparison.
     pub fn insert_reserved(&mut self, tag: Tag)
         requires { 0 < self.old.spare }
         ensures tags { self.new.tags ≡ insert_tag (tag_of tag) self.old.tags }
@@ -105,8 +108,8 @@ impl Tags {
         }
     }
 
-    /// Adds tags at their places, where there is room. It takes no memory. A few are put in one after the other; more are sorted at
-    /// once, together with the tags from the least of them on.
+    /// Adds tags at their places, where there is room. It takes no memory. A few are put in one after the other; more
+    /// are sorted at once, together with the tags from the least of them on.
     pub fn insert_all(&mut self, more: &[Tag])
         requires { length more.now ≤ self.old.spare }
         ensures tags { self.new.tags ≡ insert_tags (map tag_of more.now) self.old.tags }
@@ -134,7 +137,8 @@ impl Tags {
         }
     }
 
-    /// The tags on items `from` to below `to`; none where `to` is not above `from`. Both places are searched by halving.
+    /// The tags on items `from` to below `to`; none where `to` is not above `from`. Both places are searched by
+    /// halving.
     pub fn range(&self, from: u64, to: u64) -> &[Tag]
         ensures { map tag_of result.now ≡ tags_within from to self.now.tags }
     {
@@ -144,8 +148,8 @@ impl Tags {
         &tags[first..end.max(first)]
     }
 
-    /// Drops the tags on items before `before`, and keeps the memory. It looks at one tag where there is none to drop; else it searches
-    /// by halving, and moving the rest is amortized over the tags dropped.
+    /// Drops the tags on items before `before`, and keeps the memory. It looks at one tag where there is none to drop;
+    /// else it searches by halving, and moving the rest is amortized over the tags dropped.
     pub fn prune(&mut self, before: u64)
         ensures tags { self.new.tags ≡ tags_from before self.old.tags }
         ensures spare { self.new.spare + length self.new.tags ≡ self.old.spare + length self.old.tags }
@@ -174,7 +178,8 @@ impl Tags {
 // Whether it is seen at once that `tag` goes behind all others.
 fn comes_last(tags: &[Tag], tag: &Tag) -> bool
     requires { IsOrdered (map tag_of tags.now) }
-    ensures { result ≡ true → insert_tag (tag_of tag.now) (map tag_of tags.now) ≡ map tag_of tags.now ++ tag_of tag.now ∷ [] }
+    ensures { result ≡ true → insert_tag (tag_of tag.now) (map tag_of tags.now) ≡ map tag_of tags.now
+        ++ tag_of tag.now ∷ [] }
 {
     match tags.last() {
         Some(last) => last <= tag,
@@ -186,7 +191,8 @@ fn comes_last(tags: &[Tag], tag: &Tag) -> bool
 fn place_of(tags: &[Tag], tag: &Tag) -> usize
     requires { IsOrdered (map tag_of tags.now) }
     ensures bound { result ≤ length tags.now }
-    ensures place { insert_tag (tag_of tag.now) (map tag_of tags.now) ≡ insert (map tag_of tags.now) result (tag_of tag.now) }
+    ensures place { insert_tag (tag_of tag.now) (map tag_of tags.now)
+        ≡ insert (map tag_of tags.now) result (tag_of tag.now) }
 {
     tags.partition_point(|before| before < tag)
 }
@@ -211,13 +217,14 @@ fn are_in_order(tags: &[Tag], kept: usize) -> bool
     tags[kept.saturating_sub(1)..].is_sorted()
 }
 
-// Moves the tags from place `kept` on to their places among those before it, which are in order. The common case, tags in order that
-// go behind all others, takes one comparison for each.
+// Moves the tags from place `kept` on to their places among those before it, which are in order. The common case, tags
+// in order that go behind all others, takes one comparison for each.
 fn sort_in(tags: &mut [Tag], kept: usize)
     requires within { kept ≤ length tags.old }
     requires ordered { IsOrdered (map tag_of (take kept tags.old)) }
     ensures len { length tags.new ≡ length tags.old }
-    ensures tags { map tag_of tags.new ≡ insert_tags (map tag_of (drop kept tags.old)) (map tag_of (take kept tags.old)) }
+    ensures tags { map tag_of tags.new ≡ insert_tags (map tag_of (drop kept tags.old))
+        (map tag_of (take kept tags.old)) }
 {
     if are_in_order(tags, kept) {
         return;
@@ -241,7 +248,8 @@ fn least_of(tags: &[Tag]) -> Option<&Tag>
 fn count_upto(tags: &[Tag], tag: &Tag) -> usize
     requires { IsOrdered (map tag_of tags.now) }
     ensures bound { result ≤ length tags.now }
-    ensures point { IsPartitionPoint (λ t. is_le (tag_cmp (tag_of t) (tag_of tag.now)) ≡ true) (λ t. is_le (tag_cmp (tag_of t) (tag_of tag.now)) ≡ false) tags.now result }
+    ensures point { IsPartitionPoint (λ t. is_le (tag_cmp (tag_of t) (tag_of tag.now)) ≡ true)
+        (λ t. is_le (tag_cmp (tag_of t) (tag_of tag.now)) ≡ false) tags.now result }
 {
     tags.partition_point(|before| before <= tag)
 }
@@ -261,7 +269,8 @@ fn move_to_front(row: &mut [Tag], gone: usize)
 fn count_before(tags: &[Tag], offset: u64) -> usize
     requires { IsOrdered (map tag_of tags.now) }
     ensures bound { result ≤ length tags.now }
-    ensures point { IsPartitionPoint (λ t. nat_lt t.offset offset ≡ true) (λ t. nat_lt t.offset offset ≡ false) tags.now result }
+    ensures point { IsPartitionPoint (λ t. nat_lt t.offset offset ≡ true) (λ t. nat_lt t.offset offset ≡ false) tags.now
+        result }
 {
     match tags.first() {
         Some(first) if first.offset < offset => tags.partition_point(|tag| tag.offset < offset),

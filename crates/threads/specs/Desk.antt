@@ -15,7 +15,10 @@ pub record DeskState (B : Type 0) : Type 0 where
 -- a call with its reply joined the log; or it was out of memory, and nothing did
 abbrev pub IsLogged : {B : Type 0} → Asked → DeskState B → DeskState B → Option Reply → Type 0
 IsLogged asked old new None = new ≡ old
-IsLogged asked old new (Some reply) = new ≡ record old { log = old.log ++ note_of (caller.Desk old.number) asked reply ∷ [] }
+IsLogged asked old new (Some reply) = new ≡ record old {
+  log = old.log
+      ++ note_of (caller.Desk old.number) asked reply ∷ [];
+}
 
 -- a desk before its caller's run
 abbrev pub opened_at : {B : Type 0} → Flowgraph B → ℕ → DeskState B

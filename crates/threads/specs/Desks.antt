@@ -21,12 +21,16 @@ pub record IsAt {B C P : Type 0} (g : Flowgraph B) (n : ℕ) (c : C) (p : DeskPr
 
 -- each caller is at a desk of its own, and these are numbered in the callers' order
 abbrev pub AreSeated : {B C P A : Type 0} → Flowgraph B → List C → List (PromisedHandle A (DeskPromise B C P)) → Type 0
-AreSeated {B} {C} {P} {A} graph callers desks = (n : ℕ) (c : C) (d : PromisedHandle A (DeskPromise B C P)) → n < length callers → IsAt graph n (get_or callers n c) (get_or desks n d).promise
+AreSeated {B} {C} {P} {A} graph callers desks = (n : ℕ) (c : C) (d : PromisedHandle A (DeskPromise B C P))
+    → n < length callers → IsAt graph n (get_or callers n c) (get_or desks n d).promise
 
 -- a caller with a log is what this promise says
-abbrev pub HasKept : {B C P : Type 0} → (C → C → DeskState B → List Noted → Type 0) → DeskPromise B C P → C → List Noted → Type 0
+abbrev pub HasKept : {B C P : Type 0} → (C → C → DeskState B → List Noted → Type 0) → DeskPromise B C P → C → List Noted
+    → Type 0
 HasKept ran p caller log = ran p.caller.value caller (opened_at p.graph.value p.number) log
 
 -- each caller with its log is what the promise of the thread at its place says
-abbrev pub HaveKept : {B C P A : Type 0} → (C → C → DeskState B → List Noted → Type 0) → List (PromisedHandle A (DeskPromise B C P)) → List C → List (List Noted) → Type 0
-HaveKept {B} {C} {P} {A} ran desks callers logs = (n : ℕ) (c : C) (d : PromisedHandle A (DeskPromise B C P)) → n < length desks → HasKept ran (get_or desks n d).promise (get_or callers n c) (get_or logs n [])
+abbrev pub HaveKept : {B C P A : Type 0} → (C → C → DeskState B → List Noted → Type 0)
+    → List (PromisedHandle A (DeskPromise B C P)) → List C → List (List Noted) → Type 0
+HaveKept {B} {C} {P} {A} ran desks callers logs = (n : ℕ) (c : C) (d : PromisedHandle A (DeskPromise B C P))
+    → n < length desks → HasKept ran (get_or desks n d).promise (get_or callers n c) (get_or logs n [])

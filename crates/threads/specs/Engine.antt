@@ -22,34 +22,48 @@ abbrev pub plant_in : {B P : Type 0} → Engine B P → PlantState B
 plant_in (engine.Plain p) = p
 plant_in (engine.Noted r) = r.plant
 
--- a worker's claim was answered as the machine does now, and recorded where calls are; or it was out of memory, and nothing changed
-abbrev pub HasClaimed : {B P : Type 0} → (B → Meaning) → (block most : ℕ) → Engine B P → Engine B P → Option Reply → Type 0
-HasClaimed meaning b most (engine.Plain old) (engine.Plain new) reply = Answered (next (net_of meaning old.graph) old.capacities old.state (machine.Claim b most)) old new reply
-HasClaimed meaning b most (engine.Noted old) (engine.Noted new) reply = IsClaimNoted meaning (caller.Worker (id b)) (Asks (machine.Claim b most)) old new reply
+-- a worker's claim was answered as the machine does now, and recorded where calls are; or it was out of memory, and
+-- nothing changed
+abbrev pub HasClaimed : {B P : Type 0} → (B → Meaning) → (block most : ℕ) → Engine B P → Engine B P → Option Reply
+    → Type 0
+HasClaimed meaning b most (engine.Plain old) (engine.Plain new) reply = Answered
+    (next (net_of meaning old.graph) old.capacities old.state (machine.Claim b most)) old new reply
+HasClaimed meaning b most (engine.Noted old) (engine.Noted new) reply = IsClaimNoted meaning (caller.Worker (id b))
+    (Asks (machine.Claim b most)) old new reply
 HasClaimed meaning b most (engine.Plain old) (engine.Noted new) reply = ⊥
 HasClaimed meaning b most (engine.Noted old) (engine.Plain new) reply = ⊥
 
 -- a block was stepped as by the machine, and recorded where calls are; or it was out of memory, and nothing changed
-abbrev pub HasStepped : {B P : Type 0} → (B → Meaning) → (block most : ℕ) → Engine B P → Engine B P → Option Reply → Type 0
-HasStepped meaning b most (engine.Plain old) (engine.Plain new) reply = Answered (step_of (net_of meaning old.graph) old.capacities old.state b most) old new reply
+abbrev pub HasStepped : {B P : Type 0} → (B → Meaning) → (block most : ℕ) → Engine B P → Engine B P → Option Reply
+    → Type 0
+HasStepped meaning b most (engine.Plain old) (engine.Plain new) reply = Answered
+    (step_of (net_of meaning old.graph) old.capacities old.state b most) old new reply
 HasStepped meaning b most (engine.Noted old) (engine.Noted new) reply = IsStepNoted meaning b most old new reply
 HasStepped meaning b most (engine.Plain old) (engine.Noted new) reply = ⊥
 HasStepped meaning b most (engine.Noted old) (engine.Plain new) reply = ⊥
 
 -- what the machine answers now to work that is brought
 abbrev pub commit_now : {B : Type 0} → (B → Meaning) → (B → B → Bool) → PlantState B → WorkedState B → Reply × State
-commit_now meaning eq p work = commit_of (net_of meaning p.graph) p.state (is_own eq p.graph work.graph work.job.block) work.job
+commit_now meaning eq p work = commit_of (net_of meaning p.graph) p.state (is_own eq p.graph work.graph work.job.block)
+    work.job
 
--- work that was brought was taken back as by the machine, and recorded where calls are; or it is returned and nothing changed
-abbrev pub HasCommitted : {B P : Type 0} → (B → Meaning) → (B → B → Bool) → WorkedState B → Engine B P → Engine B P → Result Did (WorkedState B) → Type 0
-HasCommitted meaning eq work (engine.Plain old) (engine.Plain new) result = IsTaken (λ (d : Did). machine.Did d.0) (commit_now meaning eq old work) old new work result
-HasCommitted meaning eq work (engine.Noted old) (engine.Noted new) result = IsBack meaning (commit_now meaning eq old.plant work) old new work work.job.block result
+-- work that was brought was taken back as by the machine, and recorded where calls are; or it is returned and nothing
+-- changed
+abbrev pub HasCommitted : {B P : Type 0} → (B → Meaning) → (B → B → Bool) → WorkedState B → Engine B P → Engine B P
+    → Result Did (WorkedState B) → Type 0
+HasCommitted meaning eq work (engine.Plain old) (engine.Plain new) result = IsTaken (λ (d : Did). machine.Did d.0)
+    (commit_now meaning eq old work) old new work result
+HasCommitted meaning eq work (engine.Noted old) (engine.Noted new) result = IsBack meaning
+    (commit_now meaning eq old.plant work) old new work work.job.block result
 HasCommitted meaning eq work (engine.Plain old) (engine.Noted new) result = ⊥
 HasCommitted meaning eq work (engine.Noted old) (engine.Plain new) result = ⊥
 
--- a caller's call was answered as the machine does now, and recorded; or it was out of memory, or no calls are recorded, and nothing changed
-abbrev pub HasCalled : {B P : Type 0} → (B → Meaning) → (desk : ℕ) → Asked → Engine B P → Engine B P → Option Reply → Type 0
-HasCalled meaning desk asked (engine.Noted old) (engine.Noted new) reply = IsNoted meaning (caller.Desk desk) asked old new reply
+-- a caller's call was answered as the machine does now, and recorded; or it was out of memory, or no calls are
+-- recorded, and nothing changed
+abbrev pub HasCalled : {B P : Type 0} → (B → Meaning) → (desk : ℕ) → Asked → Engine B P → Engine B P → Option Reply
+    → Type 0
+HasCalled meaning desk asked (engine.Noted old) (engine.Noted new) reply = IsNoted meaning (caller.Desk desk) asked old
+    new reply
 HasCalled meaning desk asked (engine.Plain old) (engine.Plain new) reply = (reply ≡ None) × (new ≡ old)
 HasCalled meaning desk asked (engine.Plain old) (engine.Noted new) reply = ⊥
 HasCalled meaning desk asked (engine.Noted old) (engine.Plain new) reply = ⊥

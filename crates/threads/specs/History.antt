@@ -17,7 +17,8 @@ use Rattle.threads.specs.declared.entry.Answer.{Answer}
 use Rattle.threads.specs.declared.entry.Answer.TheVariants as answer
 use Rattle.threads.specs.declared.entry.Entry.{Entry}
 
--- what was asked of the plant: a call of the machine, or to take back the claim of a block that is in flight, with its work done
+-- what was asked of the plant: a call of the machine, or to take back the claim of a block that is in flight, with its
+-- work done
 pub data Asked : Type 0 where
   Asks : machine.Call → Asked
   Brings : (block : ℕ) → Asked
@@ -35,9 +36,11 @@ pub record Noted : Type 0 where
 
 -- what an entry records
 abbrev pub asked_by : Call → Asked
-asked_by (call.Feed f) = let feed = arc_value f in Asks (machine.Feed feed.source.0 (type_of feed.items) (numbers_of feed.items) (map mark_of feed.marks.items))
+asked_by (call.Feed f) = let feed = arc_value f in Asks (machine.Feed feed.source.0 (type_of feed.items)
+    (numbers_of feed.items) (map mark_of feed.marks.items))
 asked_by (call.Close b) = Asks (machine.Close b.0)
-asked_by (call.Set s) = let setting = arc_value s in Asks (machine.Set setting.block.0 setting.at (value_of setting.value))
+asked_by (call.Set s) = let setting = arc_value s in Asks (machine.Set setting.block.0 setting.at
+    (value_of setting.value))
 asked_by (call.Read sink from max) = Asks (machine.Read sink.0 from max)
 asked_by (call.Claim b max) = Asks (machine.Claim b.0 max)
 asked_by (call.Commit b) = Brings b.0
@@ -83,12 +86,15 @@ call_in net st (Brings b) = machine.Commit true (in_flight net st b)
 -- the calls of the machine that a history records, from a state on
 abbrev pub calls_from : Network → Capacities → State → List Noted → List machine.Call
 calls_from net caps st [] = []
-calls_from net caps st (n ∷ ns) = let call = call_in net st n.asked in call ∷ calls_from net caps (next net caps st call).1 ns
+calls_from net caps st (n ∷ ns) = let call = call_in net st n.asked in call ∷ calls_from net caps
+    (next net caps st call).1 ns
 
--- a history is a run of the machine: its replies are those of its calls, one after another, and the last state is what they leave
-pub record IsRunOf (net : Network) (caps : Capacities) (from : State) (history : List Noted) (last : State) : Type 0 where
-  pub replies : map said_of (run_of net caps from (calls_from net caps from history)).0 ≡ map (λ n. n.said) history
-  pub left : last ≡ (run_of net caps from (calls_from net caps from history)).1
+-- a history is a run of the machine: its replies are those of its calls, one after another, and the last state is what
+-- they leave
+pub record IsRunOf (net : Network) (caps : Capacities) (from : State) (history : List Noted) (last : State) : Type 0
+  where
+    pub replies : map said_of (run_of net caps from (calls_from net caps from history)).0 ≡ map (λ n. n.said) history
+    pub left : last ≡ (run_of net caps from (calls_from net caps from history)).1
 
 -- a call that is made at desks: it feeds, closes, sets or reads
 abbrev pub is_at_desks : Asked → Bool

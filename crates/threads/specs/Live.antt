@@ -22,9 +22,10 @@ use Rattle.threads.specs.Outcomes.{IsDone}
 abbrev pub opening_of : {B : Type 0} → PlantState B → OpeningState B
 opening_of p = record { graph = p.graph; state = p.state }
 
--- a plant came where a history leads from the opening: an equal graph, buffers as large as its rates ask, and no claim in flight. Each call of the
--- history is one that its caller may make
-pub record HasReached {B : Type 0} (meaning : B → Meaning) (eq : B → B → Bool) (o : OpeningState B) (history : List Noted) (p : PlantState B) : Type 0 where
+-- a plant came where a history leads from the opening: an equal graph, buffers as large as its rates ask, and no claim
+-- in flight. Each call of the history is one that its caller may make
+pub record HasReached {B : Type 0} (meaning : B → Meaning) (eq : B → B → Bool) (o : OpeningState B)
+    (history : List Noted) (p : PlantState B) : Type 0 where
   pub graph : graphs_agree eq p.graph o.graph ≡ true
   pub net : net_of meaning p.graph ≡ net_of meaning o.graph
   pub capacities : p.capacities ≡ capacities_of (net_of meaning p.graph) (balance_of (net_of meaning p.graph))
@@ -36,10 +37,12 @@ pub record HasReached {B : Type 0} (meaning : B → Meaning) (eq : B → B → B
 pub record IsStuck {B : Type 0} (meaning : B → Meaning) (p : PlantState B) : Type 0 where
   pub undone : is_all_done p.state ≡ false
   pub quiet : is_quiet (net_of meaning p.graph) p.capacities p.state ≡ true
-  pub unbalanced : (q : List ℕ) → balance_of (net_of meaning p.graph) ≡ Balanced q → AreClosed (net_of meaning p.graph) p.state → ⊥
+  pub unbalanced : (q : List ℕ) → balance_of (net_of meaning p.graph) ≡ Balanced q
+      → AreClosed (net_of meaning p.graph) p.state → ⊥
 
 -- the run ended so
-abbrev pub LiveRunEndsIn : {B P : Type 0} → (B → Meaning) → (B → B → Bool) → OpeningState B → List Noted → Outcome B P → Type 0
+abbrev pub LiveRunEndsIn : {B P : Type 0} → (B → Meaning) → (B → B → Bool) → OpeningState B → List Noted → Outcome B P
+    → Type 0
 LiveRunEndsIn meaning eq o history (Done p) = HasReached meaning eq o history p × IsDone meaning p
 LiveRunEndsIn meaning eq o history (Stopped p) = HasReached meaning eq o history p × (is_all_done p.state ≡ false)
 LiveRunEndsIn meaning eq o history (Stalled p) = HasReached meaning eq o history p × IsStuck meaning p
@@ -62,6 +65,9 @@ noted_at n = filter (λ e. is_at n e.caller)
 abbrev pub AreLogs : List (List Noted) → List Noted → Type 0
 AreLogs logs history = (n : ℕ) → get_or logs n [] ≡ noted_at n history
 
--- each caller that came back, with its log, is what a run at a desk of its own may make of the caller that was handed in at its place
-abbrev pub HaveReturned : {B C : Type 0} → (C → C → DeskState B → List Noted → Type 0) → Flowgraph B → List C → List C → List (List Noted) → Type 0
-HaveReturned {B} {C} ran graph callers after logs = (n : ℕ) (c : C) → n < length callers → ran (get_or callers n c) (get_or after n c) (opened_at graph n) (get_or logs n [])
+-- each caller that came back, with its log, is what a run at a desk of its own may make of the caller that was handed
+-- in at its place
+abbrev pub HaveReturned : {B C : Type 0} → (C → C → DeskState B → List Noted → Type 0) → Flowgraph B → List C → List C
+    → List (List Noted) → Type 0
+HaveReturned {B} {C} ran graph callers after logs = (n : ℕ) (c : C) → n < length callers
+    → ran (get_or callers n c) (get_or after n c) (opened_at graph n) (get_or logs n [])

@@ -23,9 +23,10 @@ plant_in (Stalled p) = p
 abbrev pub handed_of : {B : Type 0} → PlantState B → HandedState B
 handed_of p = record { graph = p.graph; handed = p.state.handed }
 
--- a plant has what was handed in: an equal graph, and the same tapes, closed marks and settings. Its buffers are as large as its rates ask, and no
--- claim is in flight
-pub record HasReturned {B : Type 0} (meaning : B → Meaning) (eq : B → B → Bool) (h : HandedState B) (p : PlantState B) : Type 0 where
+-- a plant has what was handed in: an equal graph, and the same tapes, closed marks and settings. Its buffers are as
+-- large as its rates ask, and no claim is in flight
+pub record HasReturned {B : Type 0} (meaning : B → Meaning) (eq : B → B → Bool) (h : HandedState B) (p : PlantState B) :
+    Type 0 where
   pub graph : graphs_agree eq p.graph h.graph ≡ true
   pub net : net_of meaning p.graph ≡ net_of meaning h.graph
   pub capacities : p.capacities ≡ capacities_of (net_of meaning p.graph) (balance_of (net_of meaning p.graph))
@@ -47,7 +48,8 @@ pub record IsStalled {B : Type 0} (meaning : B → Meaning) (asked : Bool) (p : 
   pub undone : is_all_done p.state ≡ false
   pub unasked : asked ≡ false
   pub quiet : is_quiet (net_of meaning p.graph) p.capacities p.state ≡ true
-  pub unbalanced : (q : List ℕ) → balance_of (net_of meaning p.graph) ≡ Balanced q → AreClosed (net_of meaning p.graph) p.state → ⊥
+  pub unbalanced : (q : List ℕ) → balance_of (net_of meaning p.graph) ≡ Balanced q
+      → AreClosed (net_of meaning p.graph) p.state → ⊥
 
 -- a run of what was handed in ended so, where a stop was asked for or not
 abbrev pub RunEndsIn : {B P : Type 0} → (B → Meaning) → (B → B → Bool) → HandedState B → Bool → Outcome B P → Type 0

@@ -1,4 +1,5 @@
-//! Runs in as many threads as their work is worth: on one while it is cheap, and in a pool of threads once the work of several blocks pays for them.
+//! Runs in as many threads as their work is worth: on one while it is cheap, and in a pool of threads once the work of
+//! several blocks pays for them.
 
 ghost use Rattle.std.specs.Prelude.{◌≡◌, true, false, IfOk, IfErr};
 ghost use Rattle.stream_model.specs.Machine.{is_idle};

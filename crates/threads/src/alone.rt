@@ -1,4 +1,5 @@
-//! Steps of all blocks in turn on one thread, as `settle` makes them, until the plant rests or its work is worth more threads.
+//! Steps of all blocks in turn on one thread, as `settle` makes them, until the plant rests or its work is worth more
+//! threads.
 
 ghost use Rattle.std.specs.Prelude.{◌≡◌, ◌≤◌, Some, IfOk};
 ghost use Rattle.stream_model.specs.Machine.{step_of};
@@ -210,7 +211,8 @@ fn weigh<B: Block, R: Clock>(
 ) -> Result<Weighed, PlantFault>
     requires { 1 ≤ most }
     ensures handed { handed_of plant.new ≡ handed_of plant.old }
-    ensures stepped { IfOk result (λ w. Answered (step_of (net_of B.meaning plant.old.graph) plant.old.capacities plant.old.state block.0 most) plant.old plant.new (Some (step_reply w.step))) }
+    ensures stepped { IfOk result (λ w. Answered (step_of (net_of B.meaning plant.old.graph) plant.old.capacities
+        plant.old.state block.0 most) plant.old plant.new (Some (step_reply w.step))) }
 {
     let start = now(rt);
     match plant.claim(alloc, block, most)? {

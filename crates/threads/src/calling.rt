@@ -68,11 +68,14 @@ where
     B::Places: Send + Sync,
     requires idle { is_idle plant.state ≡ true }
     requires few { vec_len callers ≤ 16 }
-    ensures ends { IfOk result (λ f. LiveRunEndsIn B.meaning B.eq (opening_of plant) (map noted_by f.history.items) f.outcome) }
-    ensures logs { IfOk result (λ f. AreLogs (map (λ l. map noted_by l.items) f.logs.items) (map noted_by f.history.items)) }
+    ensures ends { IfOk result (λ f. LiveRunEndsIn B.meaning B.eq (opening_of plant) (map noted_by f.history.items)
+        f.outcome) }
+    ensures logs { IfOk result (λ f. AreLogs (map (λ l. map noted_by l.items) f.logs.items)
+        (map noted_by f.history.items)) }
     ensures callers { IfOk result (λ f. vec_len f.callers ≡ vec_len callers) }
     ensures logged { IfOk result (λ f. vec_len f.logs ≡ vec_len callers) }
-    ensures ran { IfOk result (λ f. HaveReturned C.ran plant.graph callers.items f.callers.items (map (λ l. map noted_by l.items) f.logs.items)) }
+    ensures ran { IfOk result (λ f. HaveReturned C.ran plant.graph callers.items f.callers.items
+        (map (λ l. map noted_by l.items) f.logs.items)) }
     ensures turns { IfOk result (λ f. f.turns ≡ turns) }
     ensures err { IfErr result (GivesBackLive B.meaning B.eq (opening_of plant)) }
 {
@@ -108,11 +111,14 @@ where
     B::Places: Send + Sync,
     requires idle { is_idle plant.state ≡ true }
     requires few { vec_len callers ≤ 16 }
-    ensures ends { IfOk result (λ f. LiveRunEndsIn B.meaning B.eq (opening_of plant) (map noted_by f.history.items) f.outcome) }
-    ensures logs { IfOk result (λ f. AreLogs (map (λ l. map noted_by l.items) f.logs.items) (map noted_by f.history.items)) }
+    ensures ends { IfOk result (λ f. LiveRunEndsIn B.meaning B.eq (opening_of plant) (map noted_by f.history.items)
+        f.outcome) }
+    ensures logs { IfOk result (λ f. AreLogs (map (λ l. map noted_by l.items) f.logs.items)
+        (map noted_by f.history.items)) }
     ensures callers { IfOk result (λ f. vec_len f.callers ≡ vec_len callers) }
     ensures logged { IfOk result (λ f. vec_len f.logs ≡ vec_len callers) }
-    ensures ran { IfOk result (λ f. HaveReturned C.ran plant.graph callers.items f.callers.items (map (λ l. map noted_by l.items) f.logs.items)) }
+    ensures ran { IfOk result (λ f. HaveReturned C.ran plant.graph callers.items f.callers.items
+        (map (λ l. map noted_by l.items) f.logs.items)) }
     ensures turns { IfOk result (λ f. f.turns ≡ options.turns) }
     ensures err { IfErr result (GivesBackLive B.meaning B.eq (opening_of plant)) }
 {
@@ -156,7 +162,8 @@ where
     B::Places: Send + Sync,
     requires few { vec_len callers ≤ 16 }
     requires empty { IsEmpty room }
-    ensures ran { IfSome result (λ came. HaveReturned C.ran graph.now callers.items came.callers.items (map (λ l. map noted_by l.items) came.logs.items)) }
+    ensures ran { IfSome result (λ came. HaveReturned C.ran graph.now callers.items came.callers.items
+        (map (λ l. map noted_by l.items) came.logs.items)) }
     ensures callers { IfSome result (λ came. vec_len came.callers ≡ vec_len callers) }
     ensures logs { IfSome result (λ came. vec_len came.logs ≡ vec_len callers) }
 {
@@ -165,8 +172,10 @@ where
         rt,
         move |scope| -> Option<Returned<C>>
             requires { (vec_len callers ≤ 16) × IsEmpty room }
-            ensures ran { IfSome result (λ came. HaveReturned C.ran graph.entry.now callers.items came.callers.items (map (λ l. map noted_by l.items) came.logs.items)) }
-            ensures many { IfSome result (λ came. (vec_len came.callers ≡ vec_len callers) × (vec_len came.logs ≡ vec_len callers)) }
+            ensures ran { IfSome result (λ came. HaveReturned C.ran graph.entry.now callers.items came.callers.items
+                (map (λ l. map noted_by l.items) came.logs.items)) }
+            ensures many { IfSome result (λ came. (vec_len came.callers ≡ vec_len callers)
+                × (vec_len came.logs ≡ vec_len callers)) }
         {
             let came = run_all(
                 rt, alloc, scope, shared, graph, callers, room, threading, watch,
@@ -190,8 +199,10 @@ fn ended<B: Block, C: Drop>(
     came: Option<Returned<C>>,
     turns: Turns,
 ) -> Result<Finished<B, C>, RunFault<B>>
-    ensures ends { IfOk result (λ f. LiveRunEndsIn B.meaning B.eq opening.now (map noted_by f.history.items) f.outcome) }
-    ensures logs { IfOk result (λ f. AreLogs (map (λ l. map noted_by l.items) f.logs.items) (map noted_by f.history.items)) }
+    ensures ends { IfOk result (λ f. LiveRunEndsIn B.meaning B.eq opening.now (map noted_by f.history.items)
+        f.outcome) }
+    ensures logs { IfOk result (λ f. AreLogs (map (λ l. map noted_by l.items) f.logs.items)
+        (map noted_by f.history.items)) }
     ensures callers { IfOk result (λ f. came ≡ Some (record { callers = f.callers; logs = f.logs })) }
     ensures asked { IfOk result (λ f. IsAsAsked locked.asked f.outcome) }
     ensures turns { IfOk result (λ f. f.turns ≡ turns) }

@@ -29,8 +29,8 @@ use std::sync::{Arc, Wait};
 pub trait Caller<B: Block> {
     ghost ran: { Self → Self → DeskState B → List Noted → Type 0 } = { λ _ _ _ _. ⊤ };
 
-    /// Makes its calls at the desk, in a thread of its own. It may wait for its own input; the workers go on meanwhile. The run does not end before
-    /// it returns.
+    /// Makes its calls at the desk, in a thread of its own. It may wait for its own input; the workers go on meanwhile.
+    /// The run does not end before it returns.
     fn run<G: Gate + Drop, R: Wait>(&mut self, rt: &R, alloc: Global, desk: &mut Desk<B, G>)
         ensures { ran self.old self.new desk.old desk.new.log };
 }
@@ -112,7 +112,8 @@ impl<'a, B: Block, G: Gate + Drop> Desk<'a, B, G> {
         items: Items,
         marks: &[Mark],
     ) -> Result<Fed, PlantFault>
-        ensures { IsLogged (Asks (machine.Feed source.0 (type_of items) (numbers_of items) (map mark_of marks.now))) self.old self.new (reply_of (λ f. machine.Fed f.0) result) }
+        ensures { IsLogged (Asks (machine.Feed source.0 (type_of items) (numbers_of items) (map mark_of marks.now)))
+            self.old self.new (reply_of (λ f. machine.Fed f.0) result) }
     {
         let marks = Vec::from_slice(alloc, marks)?;
         let feed = in_arc(
@@ -132,7 +133,8 @@ impl<'a, B: Block, G: Gate + Drop> Desk<'a, B, G> {
 
     /// Like `Plant::close`. The log takes memory, so it may be refused `Memory`.
     pub fn close<R: Wait>(&mut self, rt: &R, source: BlockId) -> Result<Closed, PlantFault>
-        ensures { IsLogged (Asks (machine.Close source.0)) self.old self.new (reply_of (λ c. machine.Closed c.0) result) }
+        ensures { IsLogged (Asks (machine.Close source.0)) self.old self.new
+            (reply_of (λ c. machine.Closed c.0) result) }
     {
         let alloc = *self.log.allocator();
         match self.call(rt, alloc, Request::Close(source))? {
@@ -142,8 +144,8 @@ impl<'a, B: Block, G: Gate + Drop> Desk<'a, B, G> {
         }
     }
 
-    /// Sets the value of a block's setting from item `at` of its first input on, or from the first that is neither taken nor claimed, as `Plant::set`
-    /// does. The log keeps a copy of the value.
+    /// Sets the value of a block's setting from item `at` of its first input on, or from the first that is neither
+    /// taken nor claimed, as `Plant::set` does. The log keeps a copy of the value.
     pub fn set<R: Wait>(
         &mut self,
         rt: &R,
@@ -152,7 +154,8 @@ impl<'a, B: Block, G: Gate + Drop> Desk<'a, B, G> {
         at: Option<u64>,
         value: Value,
     ) -> Result<Taken, PlantFault>
-        ensures { IsLogged (Asks (machine.Set block.0 at (value_of value))) self.old self.new (reply_of (λ t. machine.Taken t.0) result) }
+        ensures { IsLogged (Asks (machine.Set block.0 at (value_of value))) self.old self.new
+            (reply_of (λ t. machine.Taken t.0) result) }
     {
         let copy = value.copy(alloc)?;
         let setting = in_arc(alloc, Setting { block, at, value })?;
@@ -173,7 +176,8 @@ impl<'a, B: Block, G: Gate + Drop> Desk<'a, B, G> {
         from: u64,
         max: u64,
     ) -> Result<Arc<Piece, Global>, PlantFault>
-        ensures { IsLogged (Asks (machine.Read sink.0 from max)) self.old self.new (reply_of (λ p. piece_reply (arc_value p)) result) }
+        ensures { IsLogged (Asks (machine.Read sink.0 from max)) self.old self.new
+            (reply_of (λ p. piece_reply (arc_value p)) result) }
     {
         match self.call(rt, alloc, Request::Read(sink, from, max))? {
             Response::Piece(piece) => Ok(piece),

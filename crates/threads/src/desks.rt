@@ -113,7 +113,8 @@ pub fn return_callers<B: Block, C: Caller<B> + Drop, R: Threads>(
 ) -> Option<Returned<C>>
     requires callers { vec_len callers ≡ 0 }
     requires logs { vec_len logs ≡ 0 }
-    ensures kept { IfSome result (λ came. HaveKept C.ran desks.items came.callers.items (map (λ l. map noted_by l.items) came.logs.items)) }
+    ensures kept { IfSome result (λ came. HaveKept C.ran desks.items came.callers.items
+        (map (λ l. map noted_by l.items) came.logs.items)) }
     ensures callers { IfSome result (λ came. vec_len came.callers ≡ vec_len desks) }
     ensures logs { IfSome result (λ came. vec_len came.logs ≡ vec_len desks) }
 {

@@ -76,7 +76,8 @@ impl<B: Block> Engine<B> {
         request: Request,
     ) -> Result<(Response, Answer), AllocError>
         requires { IsReady request }
-        ensures called { HasCalled B.meaning desk (asked_of request) self.old self.new (replied (λ r. response_reply r.0) result) }
+        ensures called { HasCalled B.meaning desk (asked_of request) self.old self.new
+            (replied (λ r. response_reply r.0) result) }
         ensures fits { IfOk result (λ r. AreFor request r.0 r.1) }
     {
         match self {

@@ -23,9 +23,10 @@ use std::thread;
 use std::thread::{JoinHandle, Threads};
 use std::time::Clock;
 
-/// Starts a worker for each block of a plant that has no claim in flight, and returns. The workers claim, work and commit until all blocks are done,
-/// none can act, or a stop is asked for; each claims at most 1,024 firings at a time. Before each work the gate is called. Open sources stay open.
-/// Fails with `RunFault::Memory` or `RunFault::Thread`, which return the plant.
+/// Starts a worker for each block of a plant that has no claim in flight, and returns. The workers claim, work and
+/// commit until all blocks are done, none can act, or a stop is asked for; each claims at most 1,024 firings at a time.
+/// Before each work the gate is called. Open sources stay open. Fails with `RunFault::Memory` or `RunFault::Thread`,
+/// which return the plant.
 pub fn launch<
     B: Block + Send + Sync + 'static,
     G: Gate + Drop + Send + Sync + 'static,
@@ -34,7 +35,13 @@ pub fn launch<
 where
     B::Places: Send + Sync + 'static,
     requires { is_idle plant.state ≡ true }
-    ensures ok { IfOk result (λ r. r ≡ record { handed = handed_of plant; asked = false; most = 1024; gate = Some (arc_value gate) }) }
+    ensures ok { IfOk result (λ r. r ≡ record {
+      handed = handed_of plant;
+      asked = false;
+      most = 1024;
+      gate = Some
+          (arc_value gate);
+    }) }
     ensures err { IfErr result (GivesBack B.meaning B.eq (handed_of plant)) }
 {
     launch_with(rt, alloc, plant, RunOptions::per_block(Some(gate)))
@@ -56,7 +63,12 @@ pub fn launch_with<
 where
     B::Places: Send + Sync + 'static,
     requires { is_idle plant.state ≡ true }
-    ensures ok { IfOk result (λ r. r ≡ record { handed = handed_of plant; asked = false; most = options.turns.most; gate = option_map arc_value options.gate }) }
+    ensures ok { IfOk result (λ r. r ≡ record {
+      handed = handed_of plant;
+      asked = false;
+      most = options.turns.most;
+      gate = option_map arc_value options.gate;
+    }) }
     ensures err { IfErr result (GivesBack B.meaning B.eq (handed_of plant)) }
 {
     let RunOptions {

@@ -20,7 +20,8 @@ pub fn claim_in<B: Block>(
     max: u32,
 ) -> Result<Claim<B>, PlantFault>
     requires { 1 ≤ max }
-    ensures answered { Answered (next (net_of B.meaning plant.old.graph) plant.old.capacities plant.old.state (machine.Claim block.0 max)) plant.old plant.new (reply_of claim_reply result) }
+    ensures answered { Answered (next (net_of B.meaning plant.old.graph) plant.old.capacities plant.old.state
+        (machine.Claim block.0 max)) plant.old plant.new (reply_of claim_reply result) }
     ensures of_graph { IfOk result (IsOf plant.old.graph) }
 {
     plant.claim(alloc, block, max)
@@ -34,14 +35,16 @@ pub fn step_in<B: Block>(
     max: u32,
 ) -> Result<Step, PlantFault>
     requires { 1 ≤ max }
-    ensures { Answered (step_of (net_of B.meaning plant.old.graph) plant.old.capacities plant.old.state block.0 max) plant.old plant.new (reply_of step_reply result) }
+    ensures { Answered (step_of (net_of B.meaning plant.old.graph) plant.old.capacities plant.old.state block.0 max)
+        plant.old plant.new (reply_of step_reply result) }
 {
     plant.step(alloc, block, max)
 }
 
 /// Commits what a worker has done, as the plant does.
 pub fn commit_in<B: Block>(plant: &mut Plant<B>, worked: Worked<B>) -> Result<Did, Worked<B>>
-    ensures { IsTaken (λ d. machine.Did d.0) (commit_of (net_of B.meaning plant.old.graph) plant.old.state (is_own B.eq plant.old.graph worked.graph worked.job.block) worked.job) plant.old plant.new worked result }
+    ensures { IsTaken (λ d. machine.Did d.0) (commit_of (net_of B.meaning plant.old.graph) plant.old.state
+        (is_own B.eq plant.old.graph worked.graph worked.job.block) worked.job) plant.old plant.new worked result }
 {
     plant.commit(worked)
 }

@@ -46,7 +46,8 @@ where
     B::Places: Send + Sync,
     requires few { vec_len callers ≤ 16 }
     requires empty { IsEmpty room }
-    ensures ran { IfSome result (λ came. HaveReturned C.ran graph.now callers.items came.callers.items (map (λ l. map noted_by l.items) came.logs.items)) }
+    ensures ran { IfSome result (λ came. HaveReturned C.ran graph.now callers.items came.callers.items
+        (map (λ l. map noted_by l.items) came.logs.items)) }
     ensures callers { IfSome result (λ came. vec_len came.callers ≡ vec_len callers) }
     ensures logs { IfSome result (λ came. vec_len came.logs ≡ vec_len callers) }
 {

@@ -47,7 +47,15 @@ pub struct Locked<B: Block> {
 impl<B: Block> Locked<B> {
     /// All workers work, and so many callers have not returned.
     pub fn new(engine: Engine<B>, waiting: Waiting, pool: Pool, callers: usize) -> Locked<B>
-        ensures { result ≡ record { engine = engine; waiting = waiting; pool = pool; callers = callers; asked = false; ends = false; starved = false } }
+        ensures { result ≡ record {
+          engine = engine;
+          waiting = waiting;
+          pool = pool;
+          callers = callers;
+          asked = false;
+          ends = false;
+          starved = false;
+        } }
     {
         Locked {
             engine,
@@ -75,12 +83,19 @@ impl<B: Block> Locked<B> {
 
     /// The next turn of a worker: commits what it has done, and claims its next firings.
     pub fn turn(&mut self, alloc: Global, worker: &mut Worker<B>, woken: &mut Woken) -> Next<B>
-        ensures turned { HasTurned B.meaning B.eq worker.old.block.0 worker.old.most worker.old.brought self.old self.new result }
+        ensures turned { HasTurned B.meaning B.eq worker.old.block.0 worker.old.most worker.old.brought self.old
+            self.new result }
         ensures own { IsOwn worker.old.block.0 result }
         ensures brought { worker.new.brought ≡ None }
         ensures block { worker.new.block ≡ worker.old.block }
         ensures most { worker.new.most ≡ worker.old.most }
-        ensures others { self.new ≡ record self.old { engine = self.new.engine; waiting = self.new.waiting; pool = self.new.pool; ends = self.new.ends; starved = self.new.starved } }
+        ensures others { self.new ≡ record self.old {
+          engine = self.new.engine;
+          waiting = self.new.waiting;
+          pool = self.new.pool;
+          ends = self.new.ends;
+          starved = self.new.starved;
+        } }
     {
         self.waiting.works(worker.block);
         self.take_back(worker.brought.take(), woken);
@@ -94,7 +109,12 @@ impl<B: Block> Locked<B> {
 
     /// A caller has returned. Once none is left, the run ends when all rest; a thread of a pool finds that.
     pub fn caller_leaves(&mut self, woken: &mut Woken)
-        ensures { self.new ≡ record self.old { callers = self.old.callers - 1; waiting = self.new.waiting; pool = self.new.pool; ends = self.new.ends } }
+        ensures { self.new ≡ record self.old {
+          callers = self.old.callers - 1;
+          waiting = self.new.waiting;
+          pool = self.new.pool;
+          ends = self.new.ends;
+        } }
     {
         self.callers = self.callers.saturating_sub(1);
         if self.callers == 0 {
@@ -118,7 +138,12 @@ impl<B: Block> Locked<B> {
     // Commits what a worker did, and wakes who waits for it. Work that is none of the plant's ends the run.
     fn take_back(&mut self, brought: Option<Worked<B>>, woken: &mut Woken)
         ensures committed { HasBrought B.meaning B.eq brought self.old.engine self.new.engine }
-        ensures others { self.new ≡ record self.old { engine = self.new.engine; waiting = self.new.waiting; pool = self.new.pool; ends = self.new.ends } }
+        ensures others { self.new ≡ record self.old {
+          engine = self.new.engine;
+          waiting = self.new.waiting;
+          pool = self.new.pool;
+          ends = self.new.ends;
+        } }
     {
         let Some(worked) = brought else {
             return;
@@ -141,7 +166,13 @@ impl<B: Block> Locked<B> {
     fn claim(&mut self, alloc: Global, block: BlockId, most: u32, woken: &mut Woken) -> Next<B>
         requires { 1 ≤ most }
         ensures claimed { HasNext B.meaning block.0 most self.old self.new result }
-        ensures others { self.new ≡ record self.old { engine = self.new.engine; waiting = self.new.waiting; pool = self.new.pool; ends = self.new.ends; starved = self.new.starved } }
+        ensures others { self.new ≡ record self.old {
+          engine = self.new.engine;
+          waiting = self.new.waiting;
+          pool = self.new.pool;
+          ends = self.new.ends;
+          starved = self.new.starved;
+        } }
     {
         if self.ends {
             return Next::Leave;
@@ -160,7 +191,11 @@ impl<B: Block> Locked<B> {
     }
 
     fn sleep(&mut self, block: BlockId, need: Need, woken: &mut Woken) -> Next<B>
-        ensures others { self.new ≡ record self.old { waiting = self.new.waiting; pool = self.new.pool; ends = self.new.ends } }
+        ensures others { self.new ≡ record self.old {
+          waiting = self.new.waiting;
+          pool = self.new.pool;
+          ends = self.new.ends;
+        } }
         ensures sleeps { result ≡ next.Sleep need }
     {
         let graph = self.engine.plant().graph();
@@ -172,7 +207,11 @@ impl<B: Block> Locked<B> {
     }
 
     fn leave(&mut self, block: BlockId, woken: &mut Woken) -> Next<B>
-        ensures others { self.new ≡ record self.old { waiting = self.new.waiting; pool = self.new.pool; ends = self.new.ends } }
+        ensures others { self.new ≡ record self.old {
+          waiting = self.new.waiting;
+          pool = self.new.pool;
+          ends = self.new.ends;
+        } }
         ensures leaves { result ≡ next.Leave }
     {
         let graph = self.engine.plant().graph();
@@ -185,7 +224,11 @@ impl<B: Block> Locked<B> {
 
     // Once all rest and no caller is left the run is over, or a worker slept though it could act: then all look again.
     fn look(&mut self, woken: &mut Woken)
-        ensures { self.new ≡ record self.old { waiting = self.new.waiting; pool = self.new.pool; ends = self.new.ends } }
+        ensures { self.new ≡ record self.old {
+          waiting = self.new.waiting;
+          pool = self.new.pool;
+          ends = self.new.ends;
+        } }
     {
         if 0 < self.callers || !self.waiting.all_rest() {
             return;

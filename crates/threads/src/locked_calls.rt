@@ -22,9 +22,14 @@ impl<B: Block> Locked<B> {
         woken: &mut Woken,
     ) -> Result<(Response, Answer), AllocError>
         requires { IsReady request }
-        ensures called { HasCalled B.meaning desk (asked_of request) self.old.engine self.new.engine (replied (λ r. response_reply r.0) result) }
+        ensures called { HasCalled B.meaning desk (asked_of request) self.old.engine self.new.engine
+            (replied (λ r. response_reply r.0) result) }
         ensures fits { IfOk result (λ r. AreFor request r.0 r.1) }
-        ensures others { self.new ≡ record self.old { engine = self.new.engine; waiting = self.new.waiting; pool = self.new.pool } }
+        ensures others { self.new ≡ record self.old {
+          engine = self.new.engine;
+          waiting = self.new.waiting;
+          pool = self.new.pool;
+        } }
     {
         let block = request.block();
         let (response, reply) = self.engine.call(alloc, desk, request)?;
@@ -37,7 +42,12 @@ impl<B: Block> Locked<B> {
 
     /// A caller asks for the end of the run.
     pub fn stop(&mut self, woken: &mut Woken)
-        ensures { self.new ≡ record self.old { waiting = self.new.waiting; pool = self.new.pool; asked = true; ends = true } }
+        ensures { self.new ≡ record self.old {
+          waiting = self.new.waiting;
+          pool = self.new.pool;
+          asked = true;
+          ends = true;
+        } }
     {
         self.asked = true;
         let _ = self.end(woken);

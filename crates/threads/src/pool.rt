@@ -1,4 +1,5 @@
-//! A pool of threads that act for all blocks: which blocks may act, which of them are heavy, and which threads sleep. What it decides by is `policy`.
+//! A pool of threads that act for all blocks: which blocks may act, which of them are heavy, and which threads sleep.
+//! What it decides by is `policy`.
 
 ghost use Rattle.std.specs.Prelude.{◌≤◌};
 
@@ -191,7 +192,8 @@ impl Pool {
         self.taken.add(block.0 as usize);
     }
 
-    /// Firings of a block were claimed, and their work is done outside of the lock. One more thread is called if another heavy block may act.
+    /// Firings of a block were claimed, and their work is done outside of the lock. One more thread is called if
+    /// another heavy block may act.
     pub fn goes(&mut self, block: BlockId, woken: &mut Woken) {
         self.taken.add(block.0 as usize);
         self.out.add(block.0 as usize);

@@ -19,8 +19,9 @@ use std::time::{Clock, Duration};
 // The number of the first thread.
 const FIRST: usize = 0;
 
-/// Turn after turn of the first thread of a pool until the run ends. It starts the others as they are wanted, joins them, and shows `watch` how far
-/// the plant is each time that its pause is over. Where no thread can be started the run goes on with those that are there.
+/// Turn after turn of the first thread of a pool until the run ends. It starts the others as they are wanted, joins
+/// them, and shows `watch` how far the plant is each time that its pause is over. Where no thread can be started the
+/// run goes on with those that are there.
 pub fn lead<
     B: Block + Send + Sync + 'static,
     G: Gate + Drop + Send + Sync + 'static,
@@ -49,8 +50,8 @@ where
     mates.join(&rt);
 }
 
-/// Turn after turn of the first thread of a pool until the run ends. The others are threads of the scope, which joins them. `watch` is shown how far the
-/// plant is once no caller is left.
+/// Turn after turn of the first thread of a pool until the run ends. The others are threads of the scope, which joins
+/// them. `watch` is shown how far the plant is once no caller is left.
 pub fn lead_in_scope<
     's,
     'r: 's,

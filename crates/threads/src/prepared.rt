@@ -32,7 +32,12 @@ pub fn prepare<B: Block, G: Gate + Drop>(
     crew: Crew,
 ) -> Result<Running<B, G>, RunFault<B>>
     requires { is_idle plant.state ≡ true }
-    ensures ok { IfOk result (λ r. r ≡ record { handed = handed_of plant; asked = false; most = turns.most; gate = option_map arc_value gate }) }
+    ensures ok { IfOk result (λ r. r ≡ record {
+      handed = handed_of plant;
+      asked = false;
+      most = turns.most;
+      gate = option_map arc_value gate;
+    }) }
     ensures err { IfErr result (GivesBack B.meaning B.eq (handed_of plant)) }
     ensures told { IfErr result (IsSo true false) }
 {

@@ -20,8 +20,8 @@ use plant::{Claim, Did, Opening, Plant, PlantFault, Step};
 use std::alloc::{AllocError, Global};
 use std::marker::Model;
 
-/// A plant, where it began, and the calls that were made since, each with its reply. What is recorded is a run of the machine from there to the
-/// plant's state. For the commit of each claim in flight there is room.
+/// A plant, where it began, and the calls that were made since, each with its reply. What is recorded is a run of the
+/// machine from there to the plant's state. For the commit of each claim in flight there is room.
 #[derive(Drop)]
 pub struct Recorded<B: Block> {
     plant: Plant<B>,
@@ -75,7 +75,8 @@ impl<B: Block> Recorded<B> {
         request: Request,
     ) -> Result<(Response, Answer), AllocError>
         requires { IsReady request }
-        ensures noted { IsNoted B.meaning (caller.Desk desk) (asked_of request) self.old self.new (replied (λ r. response_reply r.0) result) }
+        ensures noted { IsNoted B.meaning (caller.Desk desk) (asked_of request) self.old self.new
+            (replied (λ r. response_reply r.0) result) }
         ensures fits { IfOk result (λ r. AreFor request r.0 r.1) }
     {
         self.history.reserve(self.flights + 1)?;
@@ -93,7 +94,8 @@ impl<B: Block> Recorded<B> {
     /// keeps room for the commit to come.
     pub fn claim(&mut self, alloc: Global, block: BlockId, max: u32) -> Result<Claim<B>, PlantFault>
         requires { 1 ≤ max }
-        ensures noted { IsClaimNoted B.meaning (caller.Worker block) (asked_by (call.Claim block max)) self.old self.new (reply_of claim_reply result) }
+        ensures noted { IsClaimNoted B.meaning (caller.Worker block) (asked_by (call.Claim block max)) self.old self.new
+            (reply_of claim_reply result) }
         ensures of_graph { IfOk result (IsOf self.old.plant.graph) }
     {
         self.plant.recall();
@@ -123,7 +125,9 @@ impl<B: Block> Recorded<B> {
 
     /// Commits what a worker has done. It takes no memory.
     pub fn commit(&mut self, worked: Worked<B>) -> Result<Did, Worked<B>>
-        ensures { IsBack B.meaning (commit_of (net_of B.meaning self.old.plant.graph) self.old.plant.state (is_own B.eq self.old.plant.graph worked.graph worked.job.block) worked.job) self.old self.new worked worked.job.block result }
+        ensures { IsBack B.meaning (commit_of (net_of B.meaning self.old.plant.graph) self.old.plant.state
+            (is_own B.eq self.old.plant.graph worked.graph worked.job.block) worked.job) self.old self.new worked
+            worked.job.block result }
     {
         self.plant.recall();
         let block = worked.block();
@@ -137,8 +141,8 @@ impl<B: Block> Recorded<B> {
         Ok(did)
     }
 
-    /// Claims at most `max` firings of a block, does their work and commits it. The claim and the commit are recorded as those of a worker are. An
-    /// `Err` changes nothing.
+    /// Claims at most `max` firings of a block, does their work and commits it. The claim and the commit are recorded
+    /// as those of a worker are. An `Err` changes nothing.
     pub fn step(&mut self, alloc: Global, block: BlockId, max: u32) -> Result<Step, PlantFault>
         requires { 1 ≤ max }
         ensures { IsStepNoted B.meaning block.0 max self.old self.new (reply_of step_reply result) }

@@ -72,7 +72,8 @@ impl Request {
     pub fn ask<B: Block>(self, alloc: Global, plant: &mut Plant<B>) -> (Call, Response)
         requires { IsReady self }
         ensures call { asked_by result.0 ≡ asked_of self }
-        ensures answered { Answered (now_at B.meaning plant.old (asked_of self)) plant.old plant.new (response_reply result.1) }
+        ensures answered { Answered (now_at B.meaning plant.old (asked_of self)) plant.old plant.new
+            (response_reply result.1) }
         ensures fits { fits self result.1 ≡ true }
     {
         match self {
@@ -110,17 +111,21 @@ fn shown<B: Block>(
     from: u64,
     max: u64,
 ) -> Result<Arc<Piece, Global>, PlantFault>
-    ensures { AnsweredBy (read_of (net_of B.meaning plant.now.graph) plant.now.state sink.0 from max) (reply_of (λ p. piece_reply (arc_value p)) result) }
+    ensures { AnsweredBy (read_of (net_of B.meaning plant.now.graph) plant.now.state sink.0 from max)
+        (reply_of (λ p. piece_reply (arc_value p)) result) }
 {
     let piece = plant.read(alloc, sink, from, max)?;
     Ok(in_arc(alloc, piece)?)
 }
 
 impl Response {
-    /// The response, as it is noted in the history and once more in the log of a desk. `Err` for out of memory, and where memory for a piece lacks.
+    /// The response, as it is noted in the history and once more in the log of a desk. `Err` for out of memory, and
+    /// where memory for a piece lacks.
     pub fn to_answers(&self) -> Result<(Answer, Answer), AllocError>
-        ensures first { IfOk result (λ answers. Some (said_by answers.0) ≡ option_map said_of (response_reply self.now)) }
-        ensures second { IfOk result (λ answers. Some (said_by answers.1) ≡ option_map said_of (response_reply self.now)) }
+        ensures first { IfOk result (λ answers. Some (said_by answers.0)
+            ≡ option_map said_of (response_reply self.now)) }
+        ensures second { IfOk result (λ answers. Some (said_by answers.1)
+            ≡ option_map said_of (response_reply self.now)) }
         ensures err { IfErr result (λ _. tells (response_reply self.now) ≡ false) }
     {
         Ok((self.to_answer()?, self.to_answer()?))

@@ -67,8 +67,8 @@ impl<B: Block, G: Gate + Drop> Running<B, G> {
         self.asked
     }
 
-    /// How many items all sources were fed, and how many of these they have given by now. It takes the lock, and looks at each block. No contract
-    /// says what it returns.
+    /// How many items all sources were fed, and how many of these they have given by now. It takes the lock, and looks
+    /// at each block. No contract says what it returns.
     pub fn headway<R: Wait>(&self, rt: &R) -> Headway {
         self.shared.headway(rt)
     }
@@ -87,8 +87,8 @@ impl<B: Block, G: Gate + Drop> Running<B, G> {
         self.wait(rt)
     }
 
-    /// Waits until all workers have left, and returns how the run ended. Sinks hold what they have taken. A claim that runs out of memory ends the
-    /// run with `RunFault::Memory`, and the plant may be run again.
+    /// Waits until all workers have left, and returns how the run ended. Sinks hold what they have taken. A claim that
+    /// runs out of memory ends the run with `RunFault::Memory`, and the plant may be run again.
     pub fn wait<R: Threads + Wait>(self, rt: &R) -> Result<Outcome<B>, RunFault<B>>
         ensures ok { IfOk result (RunEndsIn B.meaning B.eq self.handed self.asked) }
         ensures err { IfErr result (GivesBack B.meaning B.eq self.handed) }

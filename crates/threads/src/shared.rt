@@ -80,7 +80,8 @@ impl<B: Block, G: Gate + Drop> Shared<B, G> {
         }
     }
 
-    /// How many items all sources were fed, and how many of these they have given by now. It takes the lock, and looks at each block.
+    /// How many items all sources were fed, and how many of these they have given by now. It takes the lock, and looks
+    /// at each block.
     pub fn headway<R: Wait>(&self, rt: &R) -> Headway {
         self.as_guest(rt).engine.plant().headway()
     }

@@ -23,7 +23,8 @@ const MOST: u32 = 65_536;
 impl Turns {
     /// Turns of at most so many firings, from 1 to 65,536; `None` for any other number.
     pub fn new(most: u32) -> Option<Turns>
-        ensures { option_map (λ turns. turns.most) result ≡ (if nat_le 1 most && nat_le most 65536 then Some most else None) }
+        ensures { option_map (λ turns. turns.most) result ≡ (if nat_le 1 most && nat_le most 65536 then Some
+            most else None) }
     {
         if 1 <= most && most <= MOST {
             Some(Turns { most })

@@ -91,7 +91,8 @@ impl TopBlock {
 
     /// Appends items to a source's tape, with marks on them, as `Plant::feed` does, with its refusals.
     pub fn feed(&mut self, source: BlockId, items: Items, marks: &[Mark]) -> Result<Fed, PlantFault>
-        ensures { Answered (feed_of (net_of meaning_of self.old.graph) self.old.state source.0 (type_of items) (numbers_of items) (map mark_of marks.now)) self.old self.new (reply_of (λ f. machine.Fed f.0) result) }
+        ensures { Answered (feed_of (net_of meaning_of self.old.graph) self.old.state source.0 (type_of items)
+            (numbers_of items) (map mark_of marks.now)) self.old self.new (reply_of (λ f. machine.Fed f.0) result) }
     {
         self.plant.feed(source, items, marks)
     }
@@ -99,7 +100,8 @@ impl TopBlock {
     /// Closes a source's tape, as `Plant::close` does, with its refusals: nothing more can be fed. A run closes all
     /// that are open.
     pub fn close(&mut self, source: BlockId) -> Result<Closed, PlantFault>
-        ensures { AnsweredAlways (close_of (net_of meaning_of self.old.graph) self.old.state source.0) self.old self.new (reply_of (λ c. machine.Closed c.0) result) }
+        ensures { AnsweredAlways (close_of (net_of meaning_of self.old.graph) self.old.state source.0) self.old self.new
+            (reply_of (λ c. machine.Closed c.0) result) }
     {
         self.plant.close(source)
     }
@@ -112,7 +114,8 @@ impl TopBlock {
         at: Option<u64>,
         value: Value,
     ) -> Result<Taken, PlantFault>
-        ensures { Answered (set_of (net_of meaning_of self.old.graph) self.old.state block.0 at (value_of value)) self.old self.new (reply_of (λ t. machine.Taken t.0) result) }
+        ensures { Answered (set_of (net_of meaning_of self.old.graph) self.old.state block.0 at (value_of value))
+            self.old self.new (reply_of (λ t. machine.Taken t.0) result) }
     {
         self.plant.set(block, at, value)
     }
@@ -124,8 +127,14 @@ impl TopBlock {
         rt: R,
         alloc: Global,
     ) -> Result<Running<Kind, Open>, RunFault<Kind>>
-        ensures ok { IfOk result (λ r. r ≡ record { handed = handed_of (with_all_closed meaning_of self); asked = false; most = 1024; gate = None }) }
-        ensures err { IfErr result (GivesBack meaning_of ⟦<Kind as PartialEq>⟧.eq (handed_of (with_all_closed meaning_of self))) }
+        ensures ok { IfOk result (λ r. r ≡ record {
+          handed = handed_of (with_all_closed meaning_of self);
+          asked = false;
+          most = 1024;
+          gate = None;
+        }) }
+        ensures err { IfErr result (GivesBack meaning_of ⟦<Kind as PartialEq>⟧.eq
+            (handed_of (with_all_closed meaning_of self))) }
     {
         self.start_with(rt, alloc, RunOptions::default())
     }
@@ -141,8 +150,14 @@ impl TopBlock {
         alloc: Global,
         options: RunOptions<G>,
     ) -> Result<Running<Kind, G>, RunFault<Kind>>
-        ensures ok { IfOk result (λ r. r ≡ record { handed = handed_of (with_all_closed meaning_of self); asked = false; most = options.turns.most; gate = option_map arc_value options.gate }) }
-        ensures err { IfErr result (GivesBack meaning_of ⟦<Kind as PartialEq>⟧.eq (handed_of (with_all_closed meaning_of self))) }
+        ensures ok { IfOk result (λ r. r ≡ record {
+          handed = handed_of (with_all_closed meaning_of self);
+          asked = false;
+          most = options.turns.most;
+          gate = option_map arc_value options.gate;
+        }) }
+        ensures err { IfErr result (GivesBack meaning_of ⟦<Kind as PartialEq>⟧.eq
+            (handed_of (with_all_closed meaning_of self))) }
     {
         let TopBlock { mut plant } = self;
         close_all(&mut plant);
@@ -156,8 +171,10 @@ impl TopBlock {
         rt: R,
         alloc: Global,
     ) -> Result<Outcome<Kind>, RunFault<Kind>>
-        ensures ok { IfOk result (RunEndsIn meaning_of ⟦<Kind as PartialEq>⟧.eq (handed_of (with_all_closed meaning_of self)) false) }
-        ensures err { IfErr result (GivesBack meaning_of ⟦<Kind as PartialEq>⟧.eq (handed_of (with_all_closed meaning_of self))) }
+        ensures ok { IfOk result (RunEndsIn meaning_of ⟦<Kind as PartialEq>⟧.eq
+            (handed_of (with_all_closed meaning_of self)) false) }
+        ensures err { IfErr result (GivesBack meaning_of ⟦<Kind as PartialEq>⟧.eq
+            (handed_of (with_all_closed meaning_of self))) }
         ensures told { IfErr result (IsSo true false) }
     {
         let options: RunOptions<Open> = RunOptions::default();
@@ -181,8 +198,10 @@ impl TopBlock {
         options: RunOptions<G>,
         watch: &mut W,
     ) -> Result<Outcome<Kind>, RunFault<Kind>>
-        ensures ok { IfOk result (RunEndsIn meaning_of ⟦<Kind as PartialEq>⟧.eq (handed_of (with_all_closed meaning_of self)) false) }
-        ensures err { IfErr result (GivesBack meaning_of ⟦<Kind as PartialEq>⟧.eq (handed_of (with_all_closed meaning_of self))) }
+        ensures ok { IfOk result (RunEndsIn meaning_of ⟦<Kind as PartialEq>⟧.eq
+            (handed_of (with_all_closed meaning_of self)) false) }
+        ensures err { IfErr result (GivesBack meaning_of ⟦<Kind as PartialEq>⟧.eq
+            (handed_of (with_all_closed meaning_of self))) }
         ensures told { options.threading ≡ Adaptive → IfErr result (IsSo true false) }
     {
         let TopBlock { mut plant } = self;
@@ -212,11 +231,14 @@ impl TopBlock {
         watch: &mut W,
     ) -> Result<Finished<Kind, C>, RunFault<Kind>>
         requires { vec_len callers ≤ 16 }
-        ensures ends { IfOk result (λ f. LiveRunEndsIn meaning_of ⟦<Kind as PartialEq>⟧.eq (opening_of self) (map noted_by f.history.items) f.outcome) }
-        ensures logs { IfOk result (λ f. AreLogs (map (λ l. map noted_by l.items) f.logs.items) (map noted_by f.history.items)) }
+        ensures ends { IfOk result (λ f. LiveRunEndsIn meaning_of ⟦<Kind as PartialEq>⟧.eq (opening_of self)
+            (map noted_by f.history.items) f.outcome) }
+        ensures logs { IfOk result (λ f. AreLogs (map (λ l. map noted_by l.items) f.logs.items)
+            (map noted_by f.history.items)) }
         ensures callers { IfOk result (λ f. vec_len f.callers ≡ vec_len callers) }
         ensures logged { IfOk result (λ f. vec_len f.logs ≡ vec_len callers) }
-        ensures ran { IfOk result (λ f. HaveReturned C.ran self.graph callers.items f.callers.items (map (λ l. map noted_by l.items) f.logs.items)) }
+        ensures ran { IfOk result (λ f. HaveReturned C.ran self.graph callers.items f.callers.items
+            (map (λ l. map noted_by l.items) f.logs.items)) }
         ensures turns { IfOk result (λ f. f.turns ≡ options.turns) }
         ensures err { IfErr result (GivesBackLive meaning_of ⟦<Kind as PartialEq>⟧.eq (opening_of self)) }
     {

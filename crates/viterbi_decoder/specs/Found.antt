@@ -12,7 +12,8 @@ found m x k s = cheapest (cost m x 0 k) (paths_to m k s)
 -- the path found to a state among those of one step more whose last row is below i
 abbrev pub found_by : Trellis → List ℤ → ℕ → ℕ → ℕ → Option (List ℕ)
 found_by m x k i s =
-    cheapest (cost m x 0 (suc k)) (flat_map (λ r. map (λ path. r ∷ path) (paths_to m k (r / m.symbols))) (filter (λ r. slice_index_or m.next r 0 == s) (below i)))
+    cheapest (cost m x 0 (suc k)) (flat_map (λ r. map (λ path. r ∷ path) (paths_to m k (r / m.symbols)))
+    (filter (λ r. slice_index_or m.next r 0 == s) (below i)))
 
 -- the path found to the state that a row leads from, with this row behind it
 abbrev pub behind : Trellis → List ℤ → ℕ → ℕ → Option (List ℕ)
@@ -50,18 +51,23 @@ pub record IsSum (m : Trellis) (x : List ℤ) (k : ℕ) (path : Option (List ℕ
 pub record AreSums (m : Trellis) (x : List ℤ) (k : ℕ) (sums : List ℤ) : Type 0 where
   pub each : (s : ℕ) → s < states_of m → IsSum m x k (found m x k s) (sum_in (slice_index_or sums s (pos 0)))
 
--- the last row of a path of so many steps and one more, where there is a path: behind the path found to the state that the row leads from
+-- the last row of a path of so many steps and one more, where there is a path: behind the path found to the state that
+-- the row leads from
 pub record IsLastRow (m : Trellis) (x : List ℤ) (k : ℕ) (path : Option (List ℕ)) (row : ℕ) : Type 0 where
-  pub is : (p : List ℕ) → path ≡ Some p → (rest : List ℕ) × (p ≡ row ∷ rest) × (found m x k (row / m.symbols) ≡ Some rest)
+  pub is : (p : List ℕ) → path ≡ Some p → (rest : List ℕ) × (p ≡ row ∷ rest)
+      × (found m x k (row / m.symbols) ≡ Some rest)
 
 -- the last rows of the paths found of one step to so many, to each state
 pub record AreLastRows (m : Trellis) (x : List ℤ) (k : ℕ) (rows : List ℕ) : Type 0 where
-  pub each : (j s : ℕ) → j < k → s < states_of m → IsLastRow m x j (found m x (suc j) s) (slice_index_or rows (j * states_of m + s) 0)
+  pub each : (j s : ℕ) → j < k → s < states_of m → IsLastRow m x j (found m x (suc j) s)
+      (slice_index_or rows (j * states_of m + s) 0)
 
 -- the sums and the last rows of the paths found to each state among those of one step more whose last row is below i
 pub record AreHeld (m : Trellis) (x : List ℤ) (k i : ℕ) (sums : List ℤ) (rows : List ℕ) : Type 0 where
-  pub sums_are : (s : ℕ) → s < states_of m → IsSum m x (suc k) (found_by m x k i s) (sum_in (slice_index_or sums s (pos 0)))
-  pub rows_are : (s : ℕ) → s < states_of m → IsLastRow m x k (found_by m x k i s) (slice_index_or rows (k * states_of m + s) 0)
+  pub sums_are : (s : ℕ) → s < states_of m → IsSum m x (suc k) (found_by m x k i s)
+      (sum_in (slice_index_or sums s (pos 0)))
+  pub rows_are : (s : ℕ) → s < states_of m → IsLastRow m x k (found_by m x k i s)
+      (slice_index_or rows (k * states_of m + s) 0)
 
 -- the state that each row below i leads from
 pub record AreFrom (m : Trellis) (i : ℕ) (from : List ℕ) : Type 0 where
@@ -77,7 +83,8 @@ pub record IsListed (rows : List ℕ) (count early late : ℕ) : Type 0 where
 -- of the rows below i that lead to each state, how many there are, and the last two
 pub record AreListed (m : Trellis) (i : ℕ) (counts early late : List ℕ) : Type 0 where
   pub few : (s : ℕ) → s < states_of m → slice_index_or counts s 0 ≤ i
-  pub each : (s : ℕ) → s < states_of m → IsListed (filter (λ r. slice_index_or m.next r 0 == s) (below i)) (slice_index_or counts s 0) (slice_index_or early s 0) (slice_index_or late s 0)
+  pub each : (s : ℕ) → s < states_of m → IsListed (filter (λ r. slice_index_or m.next r 0 == s) (below i))
+      (slice_index_or counts s 0) (slice_index_or early s 0) (slice_index_or late s 0)
 
 -- the two rows that lead to each state
 pub record ArePairs (m : Trellis) (early late : List ℕ) : Type 0 where
@@ -94,4 +101,12 @@ pub record AreRows (m : Trellis) (rows : List ℕ) : Type 0 where
 
 abbrev pub trellis : ℕ → List ℕ → List ℕ → ℕ → ℕ → Option ℕ → Option ℕ → Trellis
 trellis of_symbols nexts of_rows of_outputs of_steps begin last =
-    record { symbols = of_symbols; next = nexts; output = of_rows; outputs = of_outputs; steps = of_steps; start = begin; end = last }
+    record {
+      symbols = of_symbols;
+      next = nexts;
+      output = of_rows;
+      outputs = of_outputs;
+      steps = of_steps;
+      start = begin;
+      end = last;
+    }

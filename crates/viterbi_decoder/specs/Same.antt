@@ -12,8 +12,10 @@ use Rattle.viterbi_decoder.specs.declared.decoder.Decoder.{Decoder}
 -- the test that is derived
 abbrev pub decoders_agree : Decoder → Decoder → Bool
 decoders_agree a b =
-    nat_eq a.symbols b.symbols && (nat_eq a.states b.states && (pointwise nat_eq a.next.items b.next.items && (pointwise nat_eq a.output.items b.output.items
-    && (nat_eq a.outputs b.outputs && (nat_eq a.steps b.steps && (option_eq nat_eq a.start b.start && option_eq nat_eq a.end b.end))))))
+    nat_eq a.symbols b.symbols && (nat_eq a.states b.states && (pointwise nat_eq a.next.items b.next.items &&
+    (pointwise nat_eq a.output.items b.output.items
+    && (nat_eq a.outputs b.outputs && (nat_eq a.steps b.steps && (option_eq nat_eq a.start b.start && option_eq nat_eq
+    a.end b.end))))))
 
 same_known : (a b : Option ℕ) → option_eq nat_eq a b ≡ true → a ≡ b
 same_known None None e = refl
@@ -37,10 +39,14 @@ same_trellis a b e =
     let from_steps = second_so (nat_eq a.outputs b.outputs) behind_outputs from_outputs in
     let from_start = second_so (nat_eq a.steps b.steps) behind_steps from_steps in
     let symbols_same = eqb-true a.symbols b.symbols (first_so (nat_eq a.symbols b.symbols) behind_symbols e) in
-    let next_same = same_text a.next.items b.next.items (sym (first_so (pointwise nat_eq a.next.items b.next.items) behind_next from_next)) in
-    let output_same = same_text a.output.items b.output.items (sym (first_so (pointwise nat_eq a.output.items b.output.items) behind_output from_output)) in
-    let outputs_same = eqb-true a.outputs b.outputs (first_so (nat_eq a.outputs b.outputs) behind_outputs from_outputs) in
+    let next_same = same_text a.next.items b.next.items (sym (first_so (pointwise nat_eq a.next.items b.next.items)
+    behind_next from_next)) in
+    let output_same = same_text a.output.items b.output.items (sym (first_so
+    (pointwise nat_eq a.output.items b.output.items) behind_output from_output)) in
+    let outputs_same = eqb-true a.outputs b.outputs (first_so (nat_eq a.outputs b.outputs) behind_outputs from_outputs)
+    in
     let steps_same = eqb-true a.steps b.steps (first_so (nat_eq a.steps b.steps) behind_steps from_steps) in
     let start_same = same_known a.start b.start (first_so (option_eq nat_eq a.start b.start) ends from_start) in
     let end_same = same_known a.end b.end (second_so (option_eq nat_eq a.start b.start) ends from_start) in
-    λ i. trellis (symbols_same i) (next_same i) (output_same i) (outputs_same i) (steps_same i) (start_same i) (end_same i)
+    λ i. trellis (symbols_same i) (next_same i) (output_same i) (outputs_same i) (steps_same i) (start_same i)
+    (end_same i)

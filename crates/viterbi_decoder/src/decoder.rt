@@ -1,4 +1,5 @@
-//! Machines, and how a block of metrics is decoded: step by step the cheapest path to each state, and then back along the one that is left.
+//! Machines, and how a block of metrics is decoded: step by step the cheapest path to each state, and then back along
+//! the one that is left.
 ghost use Rattle.std.specs.Prelude.{◌≡◌, ◌*◌, ◌<◌, ◌≤◌, ℕ, ℤ, List, Option, length, map, slice_index_or};
 ghost use Rattle.kind_model.specs.Trellis.{IsTrellis, decoded, states_of};
 ghost use Rattle.viterbi_decoder.specs.Found.{trellis, AreSums, AreLastRows, AreRows};
@@ -42,8 +43,9 @@ pub struct Decoder {
 impl Decoder {
     ghost use Rattle.viterbi_decoder.specs.Model.{trellis_of};
 
-    /// The decoder of a machine: `next` and `output` have a row of `symbols` for each state, the next state and the number of the output. A block has
-    /// `steps`, each with a metric of each of the `outputs`; it begins in the state `start` and ends in the state `end`, where these are known.
+    /// The decoder of a machine: `next` and `output` have a row of `symbols` for each state, the next state and the
+    /// number of the output. A block has `steps`, each with a metric of each of the `outputs`; it begins in the state
+    /// `start` and ends in the state `end`, where these are known.
     pub fn new(
         symbols: u32,
         next: Vec<u16>,
@@ -109,8 +111,8 @@ impl Decoder {
         }
     }
 
-    /// Writes the symbols of a block of metrics: those of the first of the paths whose metrics have the least sum, and zeros where no path goes from the
-    /// known start to the known end.
+    /// Writes the symbols of a block of metrics: those of the first of the paths whose metrics have the least sum, and
+    /// zeros where no path goes from the known start to the known end.
     pub fn decode<T: Number>(&self, metrics: &[T], out: &mut [u8])
         requires metrics { length metrics.now ≡ self.now.steps * self.now.outputs }
         requires out { length out.old ≡ self.now.steps }

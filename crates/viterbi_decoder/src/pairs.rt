@@ -1,4 +1,5 @@
-//! Machines in which two rows lead to each state, as in those of binary codes: the path with one step more is the cheaper of two.
+//! Machines in which two rows lead to each state, as in those of binary codes: the path with one step more is the
+//! cheaper of two.
 ghost use Rattle.std.specs.Prelude.{◌≡◌, ◌+◌, ◌*◌, ◌<◌, ◌≤◌, ℕ, ℤ, suc, IsTrue, List, length, map, slice_index_or};
 ghost use Rattle.kind_model.specs.Trellis.{states_of};
 ghost use Rattle.viterbi_decoder.specs.Found.{behind, sum_in, IsSum, AreSums, AreLastRows, AreRows, AreFrom, AreListed, ArePairs, AreTaken};
@@ -103,7 +104,8 @@ impl Decoder {
         requires from { AreFrom (trellis_of self.now) (length self.now.next.items) from.now }
         requires long { states_of (trellis_of self.now) ≤ length before.now }
         requires sums { AreSums (trellis_of self.now) (map T.number metrics.now) step before.now }
-        ensures { IsSum (trellis_of self.now) (map T.number metrics.now) (suc step) (behind (trellis_of self.now) (map T.number metrics.now) step row) (sum_in result) }
+        ensures { IsSum (trellis_of self.now) (map T.number metrics.now) (suc step)
+            (behind (trellis_of self.now) (map T.number metrics.now) step row) (sum_in result) }
     {
         let state = usize::from(from[row]);
         self.sum_behind(metrics, step, row, before[state])
@@ -142,7 +144,8 @@ impl Decoder {
         ensures len { length after.new ≡ length after.old }
         ensures rows_len { length rows.new ≡ length rows.old }
         ensures taken { AreTaken (trellis_of self.now) (map T.number metrics.now) step (state + 1) after.new rows.new }
-        ensures stays { (i : ℕ) → i < step * states_of (trellis_of self.now) → slice_index_or rows.new i 0 ≡ slice_index_or rows.old i 0 }
+        ensures stays { (i : ℕ) → i < step * states_of (trellis_of self.now) → slice_index_or rows.new i 0
+            ≡ slice_index_or rows.old i 0 }
         ensures rows { AreRows (trellis_of self.now) rows.new }
     {
         let first = usize::from(early[state]);

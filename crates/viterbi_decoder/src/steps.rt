@@ -6,7 +6,8 @@ ghost use Rattle.viterbi_decoder.specs.Found.{found, sum_in, IsSum, AreSums, Are
 use crate::decoder::Decoder;
 use numbers::Number;
 
-// The first of two values or the second. It is written in any case: which path costs less is hard for a processor to predict.
+// The first of two values or the second. It is written in any case: which path costs less is hard for a processor to
+// predict.
 #[inline(always)]
 pub(crate) fn chosen<T: Copy>(is_first: bool, first: T, second: T) -> T
     ensures { result ≡ (if is_first then first else second) }
@@ -31,7 +32,8 @@ impl Decoder {
         requires metrics { length metrics.now ≡ self.now.steps * self.now.outputs }
         requires step { step < self.now.steps }
         requires row { row < length self.now.next.items }
-        requires sum { IsSum (trellis_of self.now) (map T.number metrics.now) step (found (trellis_of self.now) (map T.number metrics.now) step (row / self.now.symbols)) (sum_in sum) }
+        requires sum { IsSum (trellis_of self.now) (map T.number metrics.now) step
+            (found (trellis_of self.now) (map T.number metrics.now) step (row / self.now.symbols)) (sum_in sum) }
         requires long { states_of (trellis_of self.now) ≤ length after.old }
         requires room { self.now.steps * states_of (trellis_of self.now) ≤ length rows.old }
         requires held { AreHeld (trellis_of self.now) (map T.number metrics.now) step row after.old rows.old }
@@ -39,7 +41,8 @@ impl Decoder {
         ensures len { length after.new ≡ length after.old }
         ensures rows_len { length rows.new ≡ length rows.old }
         ensures held { AreHeld (trellis_of self.now) (map T.number metrics.now) step (row + 1) after.new rows.new }
-        ensures stays { (i : ℕ) → i < step * states_of (trellis_of self.now) → slice_index_or rows.new i 0 ≡ slice_index_or rows.old i 0 }
+        ensures stays { (i : ℕ) → i < step * states_of (trellis_of self.now) → slice_index_or rows.new i 0
+            ≡ slice_index_or rows.old i 0 }
         ensures rows { AreRows (trellis_of self.now) rows.new }
     {
         let sum = self.sum_behind(metrics, step, row, sum);
@@ -50,7 +53,8 @@ impl Decoder {
         rows[place] = chosen(is_less, row as u16, rows[place]);
     }
 
-    // Finds the paths with one step more whose last row is one of this state, where they cost less than those before it.
+    // Finds the paths with one step more whose last row is one of this state, where they cost less than those before
+    // it.
     fn take_state<T: Number>(
         &self,
         metrics: &[T],
@@ -63,15 +67,19 @@ impl Decoder {
         requires metrics { length metrics.now ≡ self.now.steps * self.now.outputs }
         requires step { step < self.now.steps }
         requires state { state < states_of (trellis_of self.now) }
-        requires sum { IsSum (trellis_of self.now) (map T.number metrics.now) step (found (trellis_of self.now) (map T.number metrics.now) step state) (sum_in sum) }
+        requires sum { IsSum (trellis_of self.now) (map T.number metrics.now) step
+            (found (trellis_of self.now) (map T.number metrics.now) step state) (sum_in sum) }
         requires long { states_of (trellis_of self.now) ≤ length after.old }
         requires room { self.now.steps * states_of (trellis_of self.now) ≤ length rows.old }
-        requires held { AreHeld (trellis_of self.now) (map T.number metrics.now) step (state * self.now.symbols) after.old rows.old }
+        requires held { AreHeld (trellis_of self.now) (map T.number metrics.now) step (state * self.now.symbols)
+            after.old rows.old }
         requires rows { AreRows (trellis_of self.now) rows.old }
         ensures len { length after.new ≡ length after.old }
         ensures rows_len { length rows.new ≡ length rows.old }
-        ensures held { AreHeld (trellis_of self.now) (map T.number metrics.now) step ((state + 1) * self.now.symbols) after.new rows.new }
-        ensures stays { (i : ℕ) → i < step * states_of (trellis_of self.now) → slice_index_or rows.new i 0 ≡ slice_index_or rows.old i 0 }
+        ensures held { AreHeld (trellis_of self.now) (map T.number metrics.now) step ((state + 1) * self.now.symbols)
+            after.new rows.new }
+        ensures stays { (i : ℕ) → i < step * states_of (trellis_of self.now) → slice_index_or rows.new i 0
+            ≡ slice_index_or rows.old i 0 }
         ensures rows { AreRows (trellis_of self.now) rows.new }
     {
         let symbols = self.symbols as usize;

@@ -84,7 +84,8 @@ impl Decoder {
         requires from { states_of (trellis_of self.now) ≤ length from.now }
         requires to { states_of (trellis_of self.now) ≤ length to.old }
         ensures len { length to.new ≡ length to.old }
-        ensures same { (s : ℕ) → s < states_of (trellis_of self.now) → slice_index_or to.new s (pos 0) ≡ slice_index_or from.now s (pos 0) }
+        ensures same { (s : ℕ) → s < states_of (trellis_of self.now) → slice_index_or to.new s (pos 0)
+            ≡ slice_index_or from.now s (pos 0) }
     {
         for state in 0..self.states as usize {
             to[state] = from[state];
@@ -115,8 +116,10 @@ impl Decoder {
         requires metrics { length metrics.now ≡ self.now.steps * self.now.outputs }
         requires step { step < self.now.steps }
         requires row { row < length self.now.next.items }
-        requires sum { IsSum (trellis_of self.now) (map T.number metrics.now) step (found (trellis_of self.now) (map T.number metrics.now) step (row / self.now.symbols)) (sum_in sum) }
-        ensures { IsSum (trellis_of self.now) (map T.number metrics.now) (suc step) (behind (trellis_of self.now) (map T.number metrics.now) step row) (sum_in result) }
+        requires sum { IsSum (trellis_of self.now) (map T.number metrics.now) step
+            (found (trellis_of self.now) (map T.number metrics.now) step (row / self.now.symbols)) (sum_in sum) }
+        ensures { IsSum (trellis_of self.now) (map T.number metrics.now) (suc step)
+            (behind (trellis_of self.now) (map T.number metrics.now) step row) (sum_in result) }
     {
         if sum == FAR {
             FAR
@@ -128,7 +131,8 @@ impl Decoder {
     // What the path found to a state that may be the last costs, where there is one.
     pub(crate) fn end_sum(&self, sums: &[i64], state: usize) -> Option<i64>
         requires { state < length sums.now }
-        ensures { result ≡ (if may_be self.now.end state then sum_in (slice_index_or sums.now state (pos 0)) else None) }
+        ensures { result ≡ (if may_be self.now.end state then sum_in (slice_index_or sums.now state
+            (pos 0)) else None) }
     {
         if may_be(self.end, state) {
             sum_in(sums[state])

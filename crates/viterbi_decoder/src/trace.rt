@@ -17,7 +17,8 @@ impl Decoder {
         ensures len { length out.new ≡ length out.old }
         ensures symbols { (x : List ℤ) (path : List ℕ) → AreLastRows (trellis_of self.now) x self.now.steps rows.now
             → found (trellis_of self.now) x self.now.steps last ≡ Some path
-            → (j : ℕ) → j < self.now.steps → slice_index_or out.new j 0 ≡ symbol_at (trellis_of self.now) (Some path) j }
+            → (j : ℕ) → j < self.now.steps → slice_index_or out.new j 0 ≡ symbol_at (trellis_of self.now) (Some path)
+            j }
     {
         let states = self.states as usize;
         let symbols = self.symbols as usize;

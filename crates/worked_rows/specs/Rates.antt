@@ -42,10 +42,14 @@ around m = chain (source ∷ plain m ∷ sink ∷ [])
 
 -- a source whose stream is joined with what a block makes of it: the source, the join, the block, the sink
 abbrev pub joined : Node → Meaning → Node → Network
-joined from join n = record { nodes = from ∷ plain join ∷ n ∷ sink ∷ []; connections = into 0 1 0 ∷ link 0 2 ∷ into 2 1 1 ∷ link 1 3 ∷ [] }
+joined from join n = record {
+  nodes = from ∷ plain join ∷ n ∷ sink ∷ [];
+  connections = into 0 1 0 ∷ link 0 2 ∷ into 2 1
+      1 ∷ link 1 3 ∷ [];
+}
 
--- a source joined with every second item of itself, which has no balance, and beside it these two blocks in a row behind the source:
--- the source, the join, the thinning, the two, and their sinks
+-- a source joined with every second item of itself, which has no balance, and beside it these two blocks in a row
+-- behind the source: the source, the join, the thinning, the two, and their sinks
 abbrev pub uneven_beside : Meaning → Meaning → Network
 uneven_beside a b =
     record {
@@ -55,7 +59,11 @@ uneven_beside a b =
 
 -- a source before two blocks side by side, each before a sink
 abbrev pub beside : Meaning → Meaning → Network
-beside a b = record { nodes = source ∷ plain a ∷ plain b ∷ sink ∷ sink ∷ []; connections = link 0 1 ∷ link 0 2 ∷ link 1 3 ∷ link 2 4 ∷ [] }
+beside a b = record {
+  nodes = source ∷ plain a ∷ plain b ∷ sink ∷ sink ∷ [];
+  connections = link 0 1 ∷ link 0 2 ∷ link 1
+      3 ∷ link 2 4 ∷ [];
+}
 
 -- each block in order steps with at most 1,024 firings, again and again: so many rounds
 abbrev pub stepped : Network → Capacities → List ℕ → State → State

@@ -74,7 +74,9 @@ sum_with n m =
 -- a block of two inputs and two outputs of bytes, each output the input of its number, with this policy
 abbrev pub two_through : Policy → Node
 two_through t =
-    record (alone (record (at_rate (ports 2 Byte) (ports 2 Byte) 1 1) { out = λ _ xs p n. item (input xs p) n })) { policy = t }
+    record (alone (record (at_rate (ports 2 Byte) (ports 2 Byte) 1 1) { out = λ _ xs p n. item (input xs p) n })) {
+      policy = t;
+    }
 
 -- sources 0 and 1 through such a block, 2, to sinks 3 and 4
 abbrev pub two_beside : Policy → Network
@@ -84,9 +86,11 @@ two_beside t =
 
 -- the capacities where each output has the number that its block was given
 abbrev pub own_capacities : Network → Capacities
-own_capacities net = map (λ b. map (λ p. (node_at net b).capacity) (below (used_outputs net b))) (below (length net.nodes))
+own_capacities net = map (λ b. map (λ p. (node_at net b).capacity) (below (used_outputs net b)))
+    (below (length net.nodes))
 
--- a line asks for one call, or for a claim, its work and its commit in one. A commit and an abandon name a block in place of a job
+-- a line asks for one call, or for a claim, its work and its commit in one. A commit and an abandon name a block in
+-- place of a job
 pub data Line : Type 0 where
   Feed : (block : ℕ) → ItemType → List ℤ → List Mark → Line
   Close : (block : ℕ) → Line
@@ -125,7 +129,15 @@ full_replies cuts = map Did cuts
 
 -- a claim of so many firings from the first on, of a block with one used output: windows, settings in force, state word
 abbrev pub claim_reply : (block first count : ℕ) → List (List ℤ) → List Held → ℕ → Reply
-claim_reply b k n ws hs w = Claimed (record { block = b; outputs = 1; first = k; count = n; windows = ws; held = hs; word = w })
+claim_reply b k n ws hs w = Claimed (record {
+  block = b;
+  outputs = 1;
+  first = k;
+  count = n;
+  windows = ws;
+  held = hs;
+  word = w;
+})
 
 -- a claim with one window, on these items, where this number alone is in force
 abbrev pub plain_claim : (block first : ℕ) → List ℕ → ℕ → Reply
@@ -167,7 +179,11 @@ state_after net lines = (run_of_lines net (own_capacities net) (opening net) lin
 
 -- the state after opening that network, but that this tape was fed to its first block
 abbrev pub with_first_tape : List ℤ → State
-with_first_tape tape = record (opening (plus_ten 4096)) { handed = record nothing_handed { tape = tape } ∷ nothing_handed ∷ nothing_handed ∷ [] }
+with_first_tape tape = record (opening (plus_ten 4096)) {
+  handed = record nothing_handed {
+    tape = tape;
+  } ∷ nothing_handed ∷ nothing_handed ∷ [];
+}
 
 -- the committed firings, block by block
 abbrev pub firings_in : State → List ℕ
@@ -175,5 +191,6 @@ firings_in st = map (λ s. s.firings) st.progress
 
 -- what a proof unfolds to compute a row
 unfoldable pub worked_rows : ⊤
-unfolding items_by entering tags_by counts_in most decide job_of claim_of commit_of abandon_of feed_of close_of set_of read_of
+unfolding items_by entering tags_by counts_in most decide job_of claim_of commit_of abandon_of feed_of close_of set_of
+    read_of
 worked_rows = tt

@@ -24,9 +24,12 @@ pub fn rows()
     // A tape may hold 2 to the 61st items where no block gives more than it takes, a third of that where
     // one gives three for one, and 2 to the 37th where the gain is at its limit. Side by side blocks do
     // not multiply: of 4 and 2 the greater counts.
-    ensures limits_tapes_at_no_gain { longest_within_gain (chain (source ∷ plain (not_of Byte) ∷ sink ∷ [])) ≡ 2305843009213693952 }
-    ensures limits_tapes_at_three { longest_within_gain (chain (source ∷ plain (repeat Byte 3) ∷ sink ∷ [])) ≡ 768614336404564650 }
-    ensures limits_tapes_at_the_limit { longest_within_gain (chain (source ∷ plain (repeat Byte 1024) ∷ plain (repeat Byte 1024)
+    ensures limits_tapes_at_no_gain { longest_within_gain (chain (source ∷ plain (not_of Byte) ∷ sink ∷ []))
+        ≡ 2305843009213693952 }
+    ensures limits_tapes_at_three { longest_within_gain (chain (source ∷ plain (repeat Byte 3) ∷ sink ∷ []))
+        ≡ 768614336404564650 }
+    ensures limits_tapes_at_the_limit { longest_within_gain (chain (source ∷ plain (repeat Byte 1024) ∷ plain
+        (repeat Byte 1024)
         ∷ plain (repeat Byte 16) ∷ sink ∷ [])) ≡ 137438953472 }
     ensures limits_tapes_side_by_side { longest_within_gain (record {
       nodes = source ∷ plain (repeat Byte 4) ∷ plain (repeat Byte 2) ∷ sink ∷ sink ∷ [];
@@ -91,7 +94,9 @@ pub fn rows()
         (98 ∷ []) (record (plain (not_of Byte)) { multiple = 64 }) ≡ None }
 
     // The multiple of a block does not count in the gain.
-    ensures leaves_multiples_out_of_the_gain { graph_fault (chain (source ∷ record (plain (repeat Byte 1024)) { multiple = 64 }
+    ensures leaves_multiples_out_of_the_gain { graph_fault (chain (source ∷ record (plain (repeat Byte 1024)) {
+      multiple = 64;
+    }
         ∷ plain (repeat Byte 1024) ∷ plain (repeat Byte 16) ∷ sink ∷ [])) ≡ None }
 
     // A block whose input 1 and output 1 are used alone: the gap of the inputs is named.
@@ -102,21 +107,36 @@ pub fn rows()
 
     // Each limit at its end, and one beyond: 256 blocks, 1,024 connections, 16 ports, a multiple of 64, a name
     // of 32 bytes, a capacity of 65,536.
-    ensures keeps_limits_blocks { add_fault [] (record { nodes = replicate 255 source; connections = [] }) (97 ∷ []) sink ≡ None }
-    ensures keeps_limits_blocks_more { add_fault [] (record { nodes = replicate 256 source; connections = [] }) (97 ∷ []) sink
+    ensures keeps_limits_blocks { add_fault [] (record { nodes = replicate 255 source; connections = [] }) (97 ∷ [])
+        sink ≡ None }
+    ensures keeps_limits_blocks_more { add_fault [] (record { nodes = replicate 256 source; connections = [] })
+        (97 ∷ []) sink
         ≡ Some TooLarge }
-    ensures keeps_limits_connections { connect_fault (record { nodes = source ∷ sink ∷ sink ∷ []; connections = replicate 1023 (link 0 2) })
+    ensures keeps_limits_connections { connect_fault (record {
+      nodes = source ∷ sink ∷ sink ∷ [];
+      connections = replicate 1023 (link 0 2);
+    })
         (link 0 1) ≡ None }
-    ensures keeps_limits_connections_more { connect_fault (record { nodes = source ∷ sink ∷ sink ∷ []; connections = replicate 1024 (link 0 2) })
+    ensures keeps_limits_connections_more { connect_fault (record {
+      nodes = source ∷ sink ∷ sink ∷ [];
+      connections = replicate 1024 (link 0 2);
+    })
         (link 0 1) ≡ Some TooLarge }
-    ensures keeps_limits_ports { connect_fault (record { nodes = source ∷ plain (add Byte) ∷ []; connections = [] }) (into 0 1 15) ≡ None }
-    ensures keeps_limits_ports_more { connect_fault (record { nodes = source ∷ plain (add Byte) ∷ []; connections = [] }) (into 0 1 16)
+    ensures keeps_limits_ports { connect_fault (record { nodes = source ∷ plain (add Byte) ∷ []; connections = [] })
+        (into 0 1 15) ≡ None }
+    ensures keeps_limits_ports_more { connect_fault (record {
+      nodes = source ∷ plain (add Byte) ∷ [];
+      connections = [];
+    }) (into 0 1 16)
         ≡ Some (PortRange 1 In 16) }
     ensures keeps_limits_multiple { add_fault [] (record { nodes = []; connections = [] }) (97 ∷ [])
         (record (plain (not_of Byte)) { multiple = 65 }) ≡ Some BadMultiple }
     ensures keeps_limits_name { add_fault [] (record { nodes = []; connections = [] }) (replicate 32 97) sink ≡ None }
-    ensures keeps_limits_name_more { add_fault [] (record { nodes = []; connections = [] }) (replicate 33 97) sink ≡ Some BadName }
-    ensures keeps_limits_capacity { add_fault [] (record { nodes = []; connections = [] }) (97 ∷ []) (sized 65536 (not_of Byte)) ≡ None }
-    ensures keeps_limits_capacity_more { add_fault [] (record { nodes = []; connections = [] }) (97 ∷ []) (sized 65537 (not_of Byte))
+    ensures keeps_limits_name_more { add_fault [] (record { nodes = []; connections = [] }) (replicate 33 97) sink
+        ≡ Some BadName }
+    ensures keeps_limits_capacity { add_fault [] (record { nodes = []; connections = [] }) (97 ∷ [])
+        (sized 65536 (not_of Byte)) ≡ None }
+    ensures keeps_limits_capacity_more { add_fault [] (record { nodes = []; connections = [] }) (97 ∷ [])
+        (sized 65537 (not_of Byte))
         ≡ Some BadCapacity }
 {}

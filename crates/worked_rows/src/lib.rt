@@ -1,5 +1,5 @@
-//! Worked rows of the definitions: functions with empty bodies, whose clauses say what a definition gives on numbers that
-//! were worked out by hand.
+//! Worked rows of the definitions: functions with empty bodies, whose clauses say what a definition gives on numbers
+//! that were worked out by hand.
 #![tactic(auto)]
 
 pub mod graphs;

@@ -89,18 +89,22 @@ pub fn rows()
     ensures delays_up_to_the_limit_repeated { balance_of (chain (source ∷ plain (delay Byte 65536)
         ∷ plain (repeat Byte 2) ∷ sink ∷ [])) ≡ TooLarge }
 
-    // A ratio above the limit ends the search at once, also where the connections do not hold: its denominator as
-    // its numerator, 1,048,576 each. Where the ratios are small, connections that do not hold are reported before counts
+    // A ratio above the limit ends the search at once, also where the connections do not hold: its denominator as its
+    // numerator, 1,048,576 each. Where the ratios are small, connections that do not hold are reported before counts
     // that are too many: of the two denominators 1,021 and 1,019 a whole solution takes 1,040,399.
-    ensures tells_too_large_from_uneven_denominator { balance_of (uneven_beside (keep_one_in_n Byte 1024) (keep_one_in_n Byte 1024)) ≡ TooLarge }
-    ensures tells_too_large_from_uneven_numerator { balance_of (uneven_beside (repeat Byte 1024) (repeat Byte 1024)) ≡ TooLarge }
-    ensures tells_too_large_from_uneven_small { balance_of (uneven_beside (repeat Byte 1024) (keep_one_in_n Byte 1024)) ≡ Uneven }
+    ensures tells_too_large_from_uneven_denominator { balance_of (uneven_beside (keep_one_in_n Byte 1024)
+        (keep_one_in_n Byte 1024)) ≡ TooLarge }
+    ensures tells_too_large_from_uneven_numerator { balance_of (uneven_beside (repeat Byte 1024) (repeat Byte 1024))
+        ≡ TooLarge }
+    ensures tells_too_large_from_uneven_small { balance_of (uneven_beside (repeat Byte 1024) (keep_one_in_n Byte 1024))
+        ≡ Uneven }
     ensures tells_too_large_from_uneven_uneven_first { balance_of (record {
       nodes = source ∷ plain (add Byte) ∷ plain (keep_one_in_n Byte 2) ∷ sink
           ∷ plain (keep_one_in_n Byte 1021) ∷ plain (keep_one_in_n Byte 1019) ∷ sink ∷ sink ∷ [];
       connections = into 0 1 0 ∷ link 0 2 ∷ into 2 1 1 ∷ link 1 3 ∷ link 0 4 ∷ link 0 5 ∷ link 4 6 ∷ link 5 7 ∷ [];
     }) ≡ Uneven }
-    ensures tells_too_large_from_uneven_whole { balance_of (beside (keep_one_in_n Byte 1021) (keep_one_in_n Byte 1019)) ≡ TooLarge }
+    ensures tells_too_large_from_uneven_whole { balance_of (beside (keep_one_in_n Byte 1021) (keep_one_in_n Byte 1019))
+        ≡ TooLarge }
     ensures tells_too_large_from_uneven_within { balance_of (beside (keep_one_in_n Byte 255) (keep_one_in_n Byte 257))
         ≡ Balanced (65535 ∷ 257 ∷ 255 ∷ 257 ∷ 255 ∷ []) }
 {}

@@ -28,8 +28,10 @@ pub(crate) fn feed<B: Block>(
     numbers: &[i64],
     marks: &[Mark],
 ) -> Result<Vec<u8>, AllocError>
-    ensures moves { Moves (feed_numbers (net_of B.meaning plant.old.graph) plant.old.state source.0 numbers.now (marks_seen marks.now)) plant.old plant.new }
-    ensures tells { let now = feed_numbers (net_of B.meaning plant.old.graph) plant.old.state source.0 numbers.now (marks_seen marks.now) in
+    ensures moves { Moves (feed_numbers (net_of B.meaning plant.old.graph) plant.old.state source.0 numbers.now
+        (marks_seen marks.now)) plant.old plant.new }
+    ensures tells { let now = feed_numbers (net_of B.meaning plant.old.graph) plant.old.state source.0 numbers.now
+        (marks_seen marks.now) in
         IfOk result (λ line. Tells (takes_memory now.0) now plant.old.state plant.new.state line.items) }
 {
     match plant.feed_numbers(alloc, source, numbers, marks) {
@@ -44,7 +46,8 @@ pub(crate) fn close<B: Block>(
     plant: &mut Plant<B>,
     source: BlockId,
 ) -> Result<Vec<u8>, AllocError>
-    ensures moves { Moves (machine.close_of (net_of B.meaning plant.old.graph) plant.old.state source.0) plant.old plant.new }
+    ensures moves { Moves (machine.close_of (net_of B.meaning plant.old.graph) plant.old.state source.0) plant.old
+        plant.new }
     ensures tells { let now = machine.close_of (net_of B.meaning plant.old.graph) plant.old.state source.0 in
         IfOk result (λ line. Tells (takes_memory now.0) now plant.old.state plant.new.state line.items) }
 {
@@ -63,9 +66,12 @@ pub(crate) fn set<B: Block>(
     numbers: &[i64],
 ) -> Result<Vec<u8>, AllocError>
     requires { block.0 < length plant.old.graph.blocks }
-    ensures moves { Moves (set_numbers (net_of B.meaning plant.old.graph) plant.old.state block.0 at numbers.now) plant.old plant.new }
-    ensures tells { let net = net_of B.meaning plant.old.graph in let now = set_numbers net plant.old.state block.0 at numbers.now in
-        IfOk result (λ line. Tells (takes_memory now.0 || taps_wanted (node_at net block.0).meaning.setting now.0) now plant.old.state plant.new.state line.items) }
+    ensures moves { Moves (set_numbers (net_of B.meaning plant.old.graph) plant.old.state block.0 at numbers.now)
+        plant.old plant.new }
+    ensures tells { let net = net_of B.meaning plant.old.graph in let now = set_numbers net plant.old.state block.0 at
+        numbers.now in
+        IfOk result (λ line. Tells (takes_memory now.0 || taps_wanted (node_at net block.0).meaning.setting now.0) now
+        plant.old.state plant.new.state line.items) }
 {
     let Some(wanted) = plant.graph().block(block).setting() else {
         return refused(alloc, PlantFault::NoSetting);
@@ -111,8 +117,10 @@ pub(crate) fn step<B: Block>(
     max: u32,
 ) -> Result<Vec<u8>, AllocError>
     requires { 1 ≤ max }
-    ensures moves { Moves (machine.step_of (net_of B.meaning plant.old.graph) plant.old.capacities plant.old.state block.0 max) plant.old plant.new }
-    ensures tells { let now = machine.step_of (net_of B.meaning plant.old.graph) plant.old.capacities plant.old.state block.0 max in
+    ensures moves { Moves (machine.step_of (net_of B.meaning plant.old.graph) plant.old.capacities plant.old.state
+        block.0 max) plant.old plant.new }
+    ensures tells { let now = machine.step_of (net_of B.meaning plant.old.graph) plant.old.capacities plant.old.state
+        block.0 max in
         IfOk result (λ line. Tells (takes_memory now.0) now plant.old.state plant.new.state line.items) }
 {
     match plant.step(alloc, block, max) {

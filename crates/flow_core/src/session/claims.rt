@@ -27,7 +27,8 @@ pub(crate) fn claim<B: Block>(
     ensures kept { plant.new ≡ in_state plant.old plant.new.state }
     ensures jobs { KeepsJobs (net_of B.meaning plant.new.graph) plant.new.graph plant.new.state jobs.new }
     ensures gives { let old = standing_of plant.old (kept_in jobs.old) in
-        IfOk result (λ line. Gives (claim_answer (net_of B.meaning plant.old.graph) plant.old.capacities old block.0 max) old (standing_of plant.new (kept_in jobs.new)) line.items) }
+        IfOk result (λ line. Gives (claim_answer (net_of B.meaning plant.old.graph) plant.old.capacities old block.0
+        max) old (standing_of plant.new (kept_in jobs.new)) line.items) }
 {
     plant.recall();
     match plant.claim(alloc, block, max) {
@@ -55,7 +56,8 @@ pub(crate) fn commit<B: Block>(
     ensures kept { plant.new ≡ in_state plant.old plant.new.state }
     ensures jobs { KeepsJobs (net_of B.meaning plant.new.graph) plant.new.graph plant.new.state jobs.new }
     ensures gives { let old = standing_of plant.old (kept_in jobs.old) in
-        IfOk result (λ line. Gives (commit_answer (net_of B.meaning plant.old.graph) old block.0) old (standing_of plant.new (kept_in jobs.new)) line.items) }
+        IfOk result (λ line. Gives (commit_answer (net_of B.meaning plant.old.graph) old block.0) old
+        (standing_of plant.new (kept_in jobs.new)) line.items) }
 {
     plant.recall();
     let Some(job) = jobs[block.0 as usize].take() else {
@@ -79,7 +81,8 @@ pub(crate) fn abandon<B: Block>(
     ensures kept { plant.new ≡ in_state plant.old plant.new.state }
     ensures jobs { KeepsJobs (net_of B.meaning plant.new.graph) plant.new.graph plant.new.state jobs.new }
     ensures gives { let old = standing_of plant.old (kept_in jobs.old) in
-        IfOk result (λ line. Gives (abandon_answer (net_of B.meaning plant.old.graph) old block.0) old (standing_of plant.new (kept_in jobs.new)) line.items) }
+        IfOk result (λ line. Gives (abandon_answer (net_of B.meaning plant.old.graph) old block.0) old
+        (standing_of plant.new (kept_in jobs.new)) line.items) }
 {
     plant.recall();
     let Some(job) = jobs[block.0 as usize].take() else {

@@ -22,7 +22,8 @@ pub(crate) fn settle_all<B: Block>(
     ensures same { plant.new ≡ in_state plant.old plant.new.state }
     ensures jobs { KeepsJobs (net_of B.meaning plant.new.graph) plant.new.graph plant.new.state jobs.now }
     ensures settles { let old = standing_of plant.old (kept_in jobs.now) in
-        IfOk result (λ line. Settles (is_idle plant.old.state) (graph_of B.meaning plant.old) old (standing_of plant.new (kept_in jobs.now)) line.items) }
+        IfOk result (λ line. Settles (is_idle plant.old.state) (graph_of B.meaning plant.old) old
+        (standing_of plant.new (kept_in jobs.now)) line.items) }
 {
     plant.recall();
     if !plant.idle() {

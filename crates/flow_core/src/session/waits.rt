@@ -19,7 +19,8 @@ pub(crate) fn why<B: Block>(
     block: BlockId,
 ) -> Result<Vec<u8>, AllocError>
     requires { block.0 < length plant.now.graph.blocks }
-    ensures { IfOk result (λ line. line.items ≡ line_text (wait_text plant.now.graph.names (wait_of (net_of B.meaning plant.now.graph) plant.now.capacities plant.now.state block.0))) }
+    ensures { IfOk result (λ line. line.items ≡ line_text (wait_text plant.now.graph.names
+        (wait_of (net_of B.meaning plant.now.graph) plant.now.capacities plant.now.state block.0))) }
 {
     let graph = plant.graph();
     match need(plant, block) {
@@ -41,7 +42,8 @@ pub(crate) fn why<B: Block>(
 /// What a block of the graph waits for. If it waits for a block, that is one of the graph.
 pub(crate) fn need<B: Block>(plant: &Plant<B>, block: BlockId) -> BlockNeed
     requires { block.0 < length plant.now.graph.blocks }
-    ensures value { wait_told (wait_in (Ok result)) ≡ wait_of (net_of B.meaning plant.now.graph) plant.now.capacities plant.now.state block.0 }
+    ensures value { wait_told (wait_in (Ok result)) ≡ wait_of (net_of B.meaning plant.now.graph) plant.now.capacities
+        plant.now.state block.0 }
     ensures inside { waited_for block.0 (wait_told (wait_in (Ok result))) < length plant.now.graph.blocks }
 {
     plant.recall();

@@ -28,12 +28,14 @@ pub trait StalledPlant {
     /// What a block of the graph waits for. If it waits for a block, that is one of the graph.
     fn need(&self, block: BlockId) -> BlockNeed
         requires { block.0 < length (seen self.now).graph.blocks }
-        ensures value { wait_told (wait_in (Ok result)) ≡ wait_of (net_of meaning_of (seen self.now).graph) (seen self.now).capacities (seen self.now).state block.0 }
+        ensures value { wait_told (wait_in (Ok result)) ≡ wait_of (net_of meaning_of (seen self.now).graph)
+            (seen self.now).capacities (seen self.now).state block.0 }
         ensures inside { waited_for block.0 (wait_told (wait_in (Ok result))) < length (seen self.now).graph.blocks };
 
     /// A block that waits lead to from the lowest block that is not done.
     fn ring(&self) -> Option<BlockId>
-        ensures value { option_map (λ block. block.0) result ≡ ring_of (net_of meaning_of (seen self.now).graph) (seen self.now).capacities (seen self.now).state }
+        ensures value { option_map (λ block. block.0) result ≡ ring_of (net_of meaning_of (seen self.now).graph)
+            (seen self.now).capacities (seen self.now).state }
         ensures inside { IfSome result (λ block. block.0 < length (seen self.now).graph.blocks) };
 }
 

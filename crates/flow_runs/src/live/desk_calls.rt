@@ -62,7 +62,9 @@ fn feed<B: Block, G: Gate + Drop, R: Wait>(
     numbers: &[i64],
     marks: &[Mark],
 ) -> Result<Vec<u8>, AllocError>
-    ensures { IfOk result (λ line. Follows (found desk.old.graph.names name.now (λ b. feed_request (net_of B.meaning desk.old.graph) b numbers.now (marks_seen marks.now))) desk.old desk.new line.items) }
+    ensures { IfOk result (λ line. Follows (found desk.old.graph.names name.now
+        (λ b. feed_request (net_of B.meaning desk.old.graph) b numbers.now (marks_seen marks.now))) desk.old desk.new
+        line.items) }
 {
     let Some(source) = find(desk.graph(), name) else {
         return refused(alloc, PlantFault::NoSuchBlock);
@@ -102,7 +104,8 @@ fn close<B: Block, G: Gate + Drop, R: Wait>(
     desk: &mut Desk<'_, B, G>,
     name: &BlockName,
 ) -> Result<Vec<u8>, AllocError>
-    ensures { IfOk result (λ line. Follows (found desk.old.graph.names name.now (λ b. Makes (machine.Close b))) desk.old desk.new line.items) }
+    ensures { IfOk result (λ line. Follows (found desk.old.graph.names name.now (λ b. Makes (machine.Close b))) desk.old
+        desk.new line.items) }
 {
     let Some(source) = find(desk.graph(), name) else {
         return refused(alloc, PlantFault::NoSuchBlock);
@@ -122,7 +125,9 @@ fn set<B: Block, G: Gate + Drop, R: Wait>(
     at: Option<u64>,
     numbers: &[i64],
 ) -> Result<Vec<u8>, AllocError>
-    ensures { IfOk result (λ line. Follows (found desk.old.graph.names name.now (λ b. set_request b at numbers.now (node_at (net_of B.meaning desk.old.graph) b).meaning.setting)) desk.old desk.new line.items) }
+    ensures { IfOk result (λ line. Follows (found desk.old.graph.names name.now
+        (λ b. set_request b at numbers.now (node_at (net_of B.meaning desk.old.graph) b).meaning.setting)) desk.old
+        desk.new line.items) }
 {
     let Some(block) = find(desk.graph(), name) else {
         return refused(alloc, PlantFault::NoSuchBlock);
@@ -149,7 +154,8 @@ fn read<B: Block, G: Gate + Drop, R: Wait>(
     from: u64,
     max: u32,
 ) -> Result<Vec<u8>, AllocError>
-    ensures { IfOk result (λ line. Follows (found desk.old.graph.names name.now (λ b. Makes (machine.Read b from max))) desk.old desk.new line.items) }
+    ensures { IfOk result (λ line. Follows (found desk.old.graph.names name.now (λ b. Makes (machine.Read b from max)))
+        desk.old desk.new line.items) }
 {
     let Some(sink) = find(desk.graph(), name) else {
         return refused(alloc, PlantFault::NoSuchBlock);

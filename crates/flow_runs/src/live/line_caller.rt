@@ -26,7 +26,8 @@ pub(crate) struct LineCaller<'a, I: ByteIn, O: ByteOut> {
 impl<I: ByteIn, O: ByteOut> Caller<Kind> for LineCaller<'_, I, O> {
     // Nothing is said of an end whose count of failed calls is the greatest.
     ghost ran = { λ old new desk log. I.failed old.input.now < 2 ^ 64 - 1 → O.failed old.output.now < 2 ^ 64 - 1 →
-        Finishes (AtDesk meaning_of) desk (with_log desk log) (I.remaining old.input.now) (I.remaining new.input.now) (O.contents old.output.now) (O.contents new.output.now) new.ended };
+        Finishes (AtDesk meaning_of) desk (with_log desk log) (I.remaining old.input.now) (I.remaining new.input.now)
+        (O.contents old.output.now) (O.contents new.output.now) new.ended };
 
     fn run<G: Gate + Drop, R: Wait>(&mut self, rt: &R, alloc: Global, desk: &mut Desk<Kind, G>) {
         self.ended = answer(rt, alloc, desk, self.input, self.output);
@@ -45,7 +46,8 @@ fn answer<G: Gate + Drop, R: Wait, I: ByteIn, O: ByteOut>(
     output: &mut O,
 ) -> Result<(), ScriptFault>
     ensures { I.failed input.old < 2 ^ 64 - 1 → O.failed output.old < 2 ^ 64 - 1 →
-        Finishes (AtDesk meaning_of) desk.old (with_log desk.old desk.new.log) (I.remaining input.old) (I.remaining input.new) (O.contents output.old) (O.contents output.new) result }
+        Finishes (AtDesk meaning_of) desk.old (with_log desk.old desk.new.log) (I.remaining input.old)
+        (I.remaining input.new) (O.contents output.old) (O.contents output.new) result }
 {
     if input.failures() == u64::MAX {
         return Err(ScriptFault::Read);

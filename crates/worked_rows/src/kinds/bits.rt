@@ -46,7 +46,8 @@ pub fn rows()
     // On zeros: what the shift register gives by itself.
     ensures scrambles_additively_whole { output_of (additive_scrambler 3 5 1) (numbers (0 ∷ 0 ∷ 0 ∷ 0 ∷ []) ∷ []) 0
         ≡ numbers (1 ∷ 1 ∷ 0 ∷ 1 ∷ []) }
-    ensures scrambles_additively_cut { output_in_cuts (additive_scrambler 3 5 1) [] (numbers (0 ∷ 0 ∷ 0 ∷ 0 ∷ []) ∷ []) 0
+    ensures scrambles_additively_cut { output_in_cuts (additive_scrambler 3 5 1) [] (numbers (0 ∷ 0 ∷ 0 ∷ 0 ∷ []) ∷ [])
+        0
         ≡ numbers (1 ∷ 1 ∷ 0 ∷ 1 ∷ []) }
 
     // The state word before the first firing is the number of the register.
@@ -58,7 +59,8 @@ pub fn rows()
     // 10110010 01111000 11000001 is 101 100 100 111 100 011 000 001. A byte that fills no whole round gives nothing.
     ensures repacks_highest_first { output_of (repack_bits 8 3 MsbFirst) (numbers (178 ∷ 120 ∷ 193 ∷ 255 ∷ []) ∷ []) 0
         ≡ numbers (5 ∷ 4 ∷ 4 ∷ 7 ∷ 4 ∷ 3 ∷ 0 ∷ 1 ∷ []) }
-    ensures repacks_highest_first_cut { output_in_cuts (repack_bits 8 3 MsbFirst) [] (numbers (178 ∷ 120 ∷ 193 ∷ 255 ∷ []) ∷ []) 0
+    ensures repacks_highest_first_cut { output_in_cuts (repack_bits 8 3 MsbFirst) []
+        (numbers (178 ∷ 120 ∷ 193 ∷ 255 ∷ []) ∷ []) 0
         ≡ numbers (5 ∷ 4 ∷ 4 ∷ 7 ∷ 4 ∷ 3 ∷ 0 ∷ 1 ∷ []) }
 
     // From the lowest bit on they are 010 011 010 001 111 010 000 011, and the first bit counts 1.
@@ -66,7 +68,8 @@ pub fn rows()
         ≡ numbers (2 ∷ 6 ∷ 2 ∷ 4 ∷ 7 ∷ 2 ∷ 0 ∷ 6 ∷ []) }
 
     // The two lowest bits of three bytes, 01 10 11, are 011 011.
-    ensures repacks_lowest_bits { output_of (repack_bits 2 3 MsbFirst) (numbers (253 ∷ 2 ∷ 7 ∷ []) ∷ []) 0 ≡ numbers (3 ∷ 3 ∷ []) }
+    ensures repacks_lowest_bits { output_of (repack_bits 2 3 MsbFirst) (numbers (253 ∷ 2 ∷ 7 ∷ []) ∷ []) 0
+        ≡ numbers (3 ∷ 3 ∷ []) }
 
     // The bits of -2 and of 4,660, four at a time, and all of them at once.
     ensures unpacks_shorts { output_of (packed_to_unpacked Short 4 MsbFirst) (((pos 0 -ℤ pos 2) ∷ pos 4660 ∷ []) ∷ []) 0
@@ -74,23 +77,33 @@ pub fn rows()
     ensures unpacks_whole_shorts { output_of (packed_to_unpacked Short 16 MsbFirst) (((pos 0 -ℤ pos 2) ∷ []) ∷ []) 0
         ≡ (pos 0 -ℤ pos 2) ∷ [] }
 
-    // From the lowest bit on they are 0111 1111 1111 1111 and 0010 1100 0100 1000; the first bit of an output is the highest here, too.
-    ensures unpacks_shorts_cut { output_in_cuts (packed_to_unpacked Short 4 LsbFirst) [] (((pos 0 -ℤ pos 2) ∷ pos 4660 ∷ []) ∷ []) 0
+    // From the lowest bit on they are 0111 1111 1111 1111 and 0010 1100 0100 1000; the first bit of an output is the
+    // highest here, too.
+    ensures unpacks_shorts_cut { output_in_cuts (packed_to_unpacked Short 4 LsbFirst) []
+        (((pos 0 -ℤ pos 2) ∷ pos 4660 ∷ []) ∷ []) 0
         ≡ numbers (7 ∷ 15 ∷ 15 ∷ 15 ∷ 2 ∷ 12 ∷ 4 ∷ 8 ∷ []) }
 
     // And back: only the lowest bits of an item count.
-    ensures packs_shorts { output_of (unpacked_to_packed Short 4 MsbFirst) (((pos 0 -ℤ pos 1) ∷ pos 31 ∷ pos 15 ∷ pos 14 ∷ pos 1 ∷ []) ∷ []) 0
+    ensures packs_shorts { output_of (unpacked_to_packed Short 4 MsbFirst)
+        (((pos 0 -ℤ pos 1) ∷ pos 31 ∷ pos 15 ∷ pos 14 ∷ pos 1 ∷ []) ∷ []) 0
         ≡ (pos 0 -ℤ pos 2) ∷ [] }
-    ensures packs_shorts_cut { output_in_cuts (unpacked_to_packed Short 4 LsbFirst) [] (numbers (2 ∷ 12 ∷ 4 ∷ 8 ∷ []) ∷ []) 0 ≡ numbers (4660 ∷ []) }
-    ensures packs_ints { output_of (unpacked_to_packed Int 16 MsbFirst) (numbers (65535 ∷ 65534 ∷ []) ∷ []) 0 ≡ (pos 0 -ℤ pos 2) ∷ [] }
-    ensures packs_bytes { output_of (unpacked_to_packed Byte 1 LsbFirst) (numbers (1 ∷ 0 ∷ 1 ∷ 0 ∷ 0 ∷ 0 ∷ 0 ∷ 1 ∷ []) ∷ []) 0 ≡ numbers (133 ∷ []) }
+    ensures packs_shorts_cut { output_in_cuts (unpacked_to_packed Short 4 LsbFirst) []
+        (numbers (2 ∷ 12 ∷ 4 ∷ 8 ∷ []) ∷ []) 0 ≡ numbers (4660 ∷ []) }
+    ensures packs_ints { output_of (unpacked_to_packed Int 16 MsbFirst) (numbers (65535 ∷ 65534 ∷ []) ∷ []) 0
+        ≡ (pos 0 -ℤ pos 2) ∷ [] }
+    ensures packs_bytes { output_of (unpacked_to_packed Byte 1 LsbFirst)
+        (numbers (1 ∷ 0 ∷ 1 ∷ 0 ∷ 0 ∷ 0 ∷ 0 ∷ 1 ∷ []) ∷ []) 0 ≡ numbers (133 ∷ []) }
 
-    // The code 101 ends at the third item, so that the fourth has the flag, 64 items later. With one wrong bit a code is found in other places, too.
-    ensures finds_code { output_of (correlate_access_code 5 3 0) ((numbers (1 ∷ 0 ∷ 1 ∷ 1 ∷ 0 ∷ []) ++ replicate 64 (pos 0)) ∷ []) 0
+    // The code 101 ends at the third item, so that the fourth has the flag, 64 items later. With one wrong bit a code
+    // is found in other places, too.
+    ensures finds_code { output_of (correlate_access_code 5 3 0) ((numbers (1 ∷ 0 ∷ 1 ∷ 1 ∷ 0 ∷ [])
+        ++ replicate 64 (pos 0)) ∷ []) 0
         ≡ replicate 64 (pos 0) ++ numbers (1 ∷ 0 ∷ 1 ∷ 3 ∷ 0 ∷ []) }
-    ensures finds_code_cut { output_in_cuts (correlate_access_code 5 3 0) [] ((numbers (1 ∷ 0 ∷ 1 ∷ 1 ∷ 0 ∷ []) ++ replicate 64 (pos 0)) ∷ []) 0
+    ensures finds_code_cut { output_in_cuts (correlate_access_code 5 3 0) []
+        ((numbers (1 ∷ 0 ∷ 1 ∷ 1 ∷ 0 ∷ []) ++ replicate 64 (pos 0)) ∷ []) 0
         ≡ replicate 64 (pos 0) ++ numbers (1 ∷ 0 ∷ 1 ∷ 3 ∷ 0 ∷ []) }
 
     // Before the first item are zeros, but no flag stands at fewer items than the code has.
-    ensures finds_zeros { output_of (correlate_access_code 0 3 0) (numbers (1 ∷ 1 ∷ 1 ∷ 1 ∷ 1 ∷ []) ∷ []) 0 ≡ numbers (0 ∷ 0 ∷ 0 ∷ 2 ∷ 2 ∷ []) }
+    ensures finds_zeros { output_of (correlate_access_code 0 3 0) (numbers (1 ∷ 1 ∷ 1 ∷ 1 ∷ 1 ∷ []) ∷ []) 0
+        ≡ numbers (0 ∷ 0 ∷ 0 ∷ 2 ∷ 2 ∷ []) }
 {}

@@ -40,7 +40,8 @@ pub fn rows()
         ≡ numbers (44 ∷ []) }
 
     // Over -2, without what is behind the point; over 0, and the least short over -1.
-    ensures divides_by_a_constant_whole { output_of (divide_const Short (negsuc 1)) ((pos 7 ∷ negsuc 6 ∷ negsuc 32767 ∷ []) ∷ []) 0
+    ensures divides_by_a_constant_whole { output_of (divide_const Short (negsuc 1))
+        ((pos 7 ∷ negsuc 6 ∷ negsuc 32767 ∷ []) ∷ []) 0
         ≡ negsuc 2 ∷ pos 3 ∷ pos 16384 ∷ [] }
     ensures divides_by_a_constant_none { output_of (divide_const Int (pos 0)) ((pos 7 ∷ negsuc 6 ∷ []) ∷ []) 0
         ≡ pos 0 ∷ pos 0 ∷ [] }
@@ -139,7 +140,8 @@ pub fn rows()
         ≡ negsuc 32767 ∷ pos 6 ∷ [] }
 
     // 0 at first, and then what stood where the second input last had another number than 0.
-    ensures holds_whole { output_of (sample_and_hold Byte) (numbers (7 ∷ 8 ∷ 9 ∷ 10 ∷ []) ∷ numbers (0 ∷ 1 ∷ 0 ∷ 255 ∷ []) ∷ []) 0
+    ensures holds_whole { output_of (sample_and_hold Byte) (numbers (7 ∷ 8 ∷ 9 ∷ 10 ∷ []) ∷ numbers
+        (0 ∷ 1 ∷ 0 ∷ 255 ∷ []) ∷ []) 0
         ≡ numbers (0 ∷ 8 ∷ 8 ∷ 10 ∷ []) }
     ensures holds_below_zero { output_of (sample_and_hold Short)
         ((negsuc 0 ∷ pos 5 ∷ negsuc 32767 ∷ []) ∷ (negsuc 32767 ∷ pos 0 ∷ pos 0 ∷ []) ∷ []) 0
@@ -173,7 +175,8 @@ pub fn rows()
         ≡ numbers (5 ∷ 0 ∷ 0 ∷ 8 ∷ []) }
 
     // Bytes past the end get the last number.
-    ensures gives_numbers_whole { output_of (table Short (negsuc 2 ∷ pos 300 ∷ [])) (numbers (0 ∷ 1 ∷ 2 ∷ 255 ∷ []) ∷ []) 0
+    ensures gives_numbers_whole { output_of (table Short (negsuc 2 ∷ pos 300 ∷ []))
+        (numbers (0 ∷ 1 ∷ 2 ∷ 255 ∷ []) ∷ []) 0
         ≡ negsuc 2 ∷ pos 300 ∷ pos 300 ∷ pos 300 ∷ [] }
     ensures gives_numbers_cut { output_in_cuts (table Int (pos 70000 ∷ negsuc 0 ∷ [])) [] (numbers (1 ∷ 0 ∷ []) ∷ []) 0
         ≡ negsuc 0 ∷ pos 70000 ∷ [] }

@@ -28,7 +28,8 @@ pub fn rows()
     ensures keeps_the_last { output_of (keep_m_in_n Byte 1 3 2) (numbers (1 ∷ 2 ∷ 3 ∷ 4 ∷ []) ∷ []) 0
         ≡ numbers (3 ∷ []) }
 
-    // A tag goes to the nearest item (ties round up): at one item for four, at two for one, at two for four, at five for three, and at three for three.
+    // A tag goes to the nearest item (ties round up): at one item for four, at two for one, at two for four, at five
+    // for three, and at three for three.
     ensures places_by_rate_down { (keep_one_in_n Byte 4).place 0 1 ≡ 0 }
     ensures places_by_rate_up { (keep_one_in_n Byte 4).place 0 2 ≡ 1 }
     ensures places_by_rate_repeated { (repeat Byte 2).place 0 1 ≡ 2 }
@@ -55,12 +56,16 @@ pub fn rows()
         ≡ numbers (0 ∷ 1 ∷ []) }
 
     // Three values again and again, and numbers modulo 3, whatever comes.
-    ensures repeats_a_pattern_whole { output_of (pattern Byte (numbers (7 ∷ 8 ∷ 9 ∷ []))) (numbers (1 ∷ 1 ∷ 1 ∷ 1 ∷ 1 ∷ []) ∷ []) 0
+    ensures repeats_a_pattern_whole { output_of (pattern Byte (numbers (7 ∷ 8 ∷ 9 ∷ [])))
+        (numbers (1 ∷ 1 ∷ 1 ∷ 1 ∷ 1 ∷ []) ∷ []) 0
         ≡ numbers (7 ∷ 8 ∷ 9 ∷ 7 ∷ 8 ∷ []) }
-    ensures repeats_a_pattern_cut { output_in_cuts (pattern Byte (numbers (7 ∷ 8 ∷ []))) [] (numbers (0 ∷ 5 ∷ 0 ∷ []) ∷ []) 0
+    ensures repeats_a_pattern_cut { output_in_cuts (pattern Byte (numbers (7 ∷ 8 ∷ []))) []
+        (numbers (0 ∷ 5 ∷ 0 ∷ []) ∷ []) 0
         ≡ numbers (7 ∷ 8 ∷ 7 ∷ []) }
-    ensures counts_whole { output_of (counter Byte 3) (numbers (9 ∷ 9 ∷ 9 ∷ 9 ∷ []) ∷ []) 0 ≡ numbers (0 ∷ 1 ∷ 2 ∷ 0 ∷ []) }
-    ensures counts_cut { output_in_cuts (counter Byte 2) [] (numbers (5 ∷ 6 ∷ 7 ∷ []) ∷ []) 0 ≡ numbers (0 ∷ 1 ∷ 0 ∷ []) }
+    ensures counts_whole { output_of (counter Byte 3) (numbers (9 ∷ 9 ∷ 9 ∷ 9 ∷ []) ∷ []) 0
+        ≡ numbers (0 ∷ 1 ∷ 2 ∷ 0 ∷ []) }
+    ensures counts_cut { output_in_cuts (counter Byte 2) [] (numbers (5 ∷ 6 ∷ 7 ∷ []) ∷ []) 0
+        ≡ numbers (0 ∷ 1 ∷ 0 ∷ []) }
 
     // Two values in each five, after the first of them.
     ensures inserts_whole { output_of (insert Byte (numbers (9 ∷ 8 ∷ [])) 5 1)

@@ -58,7 +58,8 @@ pub fn rows()
         (feed_of (plus_ten 4096) (with_first_tape tape) 0 Byte (pos 7 ∷ pos 8 ∷ []) []).0 ≡ Refused 26 }
 
     // Where tapes may come to hold three items, a tape takes three, and not one more.
-    ensures fills_a_short_tape { replies_to (plus_ten 4096) (own_capacities (plus_ten 4096)) (opening_within 3 (plus_ten 4096))
+    ensures fills_a_short_tape { replies_to (plus_ten 4096) (own_capacities (plus_ten 4096))
+        (opening_within 3 (plus_ten 4096))
         (byte_feed 0 (1 ∷ 2 ∷ 3 ∷ 4 ∷ []) ∷ byte_feed 0 (1 ∷ 2 ∷ []) ∷ byte_feed 0 (3 ∷ 4 ∷ []) ∷ byte_feed 0 (3 ∷ [])
         ∷ byte_feed 0 (4 ∷ []) ∷ Step 0 9 ∷ byte_feed 0 (4 ∷ []) ∷ Close 0 ∷ [])
         ≡ Refused 26 ∷ Fed 2 ∷ Refused 26 ∷ Fed 3 ∷ Refused 26 ∷ Did 3 ∷ Refused 26 ∷ Closed 3 ∷ [] }
