@@ -6,8 +6,8 @@ use Rattle.std.proofs.KnownBytes.{Consumes-nil, Consumes-trans, Consumes-kept}
 use Rattle.stream_model.specs.declared.vocabulary.ItemType.{ItemType}
 use Rattle.stream_model.specs.Network.{Network, State, role_at, is_source}
 use Rattle.stream_model.specs.Machine.{Reply, Fed, feed_of}
-use Rattle.plant.specs.declared.fault.PlantFault.{PlantFault}
-use Rattle.plant.specs.declared.fault.PlantFault.TheVariants as plant
+use Rattle.plant_faults.specs.declared.fault.PlantFault.{PlantFault}
+use Rattle.plant_faults.specs.declared.fault.PlantFault.TheVariants as plant
 use Rattle.plant.specs.Answers.{source_type_of}
 use Rattle.plant.specs.Feeding.{given_type}
 use Rattle.plant.proofs.Refusals.{feed-refused}

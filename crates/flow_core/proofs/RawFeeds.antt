@@ -7,8 +7,8 @@ use Rattle.stream_model.specs.Numbers.{types_agree}
 use Rattle.stream_model.specs.Machine as machine
 use Rattle.stream_model.specs.Machine.{Reply, Fed, Refused, with_handed, with_tape, feed_of}
 use Rattle.machine_laws.proofs.Choices.{if_both, not_false}
-use Rattle.plant.specs.declared.fault.PlantFault.{PlantFault}
-use Rattle.plant.specs.declared.fault.PlantFault.TheVariants as plant
+use Rattle.plant_faults.specs.declared.fault.PlantFault.{PlantFault}
+use Rattle.plant_faults.specs.declared.fault.PlantFault.TheVariants as plant
 use Rattle.stream_model.specs.declared.vocabulary.ItemType.TheVariants.{Byte, Short, Int}
 use Rattle.kinds.specs.declared.kind.Kind.{Kind}
 use Rattle.plant.specs.Plant.{PlantState}

@@ -10,8 +10,8 @@ use Rattle.stream_model.specs.Network.{Network, State, node_at}
 use Rattle.stream_model.specs.Machine as machine
 use Rattle.stream_model.specs.Machine.{Reply, Refused, is_wanted, floor_of, place_setting}
 use Rattle.flowgraph.specs.Flowgraph.{Flowgraph, net_of, node_of}
-use Rattle.plant.specs.declared.fault.PlantFault.{PlantFault}
-use Rattle.plant.specs.declared.fault.PlantFault.TheVariants.{WrongSetting, Memory}
+use Rattle.plant_faults.specs.declared.fault.PlantFault.{PlantFault}
+use Rattle.plant_faults.specs.declared.fault.PlantFault.TheVariants.{WrongSetting, Memory}
 use Rattle.plant.specs.Answers.{takes_memory}
 use Rattle.flow_core.specs.Session.{Tells, IsValueFor, value_for, is_fit, are_taps, refusal_line, reply_line, set_value, set_wanted, set_numbers, taps_wanted}
 

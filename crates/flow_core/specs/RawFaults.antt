@@ -2,8 +2,8 @@
 use Rattle.std.specs.Prelude.{ℕ, List, [], ◌++◌, codes}
 use Rattle.std.specs.Fmt.{decimal}
 use Rattle.refusal_codes.specs.Texts.{head}
-use Rattle.plant.specs.declared.fault.PlantFault.TheVariants as plant
-use Rattle.plant.specs.Fault as plants
+use Rattle.plant_faults.specs.declared.fault.PlantFault.TheVariants as plant
+use Rattle.plant_faults.specs.Fault as plants
 use Rattle.flow_core.specs.Faults.{row_of, fault_text, status_of, stop_line}
 use Rattle.flow_core.specs.declared.raw_fault.EndFault.{EndFault}
 use Rattle.flow_core.specs.declared.raw_fault.EndFault.TheVariants.{NoSuchBlock, NotSource, NotSink, Closed, TapeFull, Read, Write, CutItem, BadLine, TagPlace}

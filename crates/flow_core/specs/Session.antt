@@ -14,9 +14,9 @@ use Rattle.settings.specs.declared.value.Value as settings
 use Rattle.settings.specs.Values.{value_of}
 use Rattle.flowgraph.specs.Flowgraph.{Flowgraph, net_of}
 use Rattle.claimed_work.specs.Jobs.{JobState}
-use Rattle.plant.specs.declared.fault.PlantFault.{PlantFault}
-use Rattle.plant.specs.declared.fault.PlantFault.TheVariants as fault
-use Rattle.plant.specs.Fault.{number_of}
+use Rattle.plant_faults.specs.declared.fault.PlantFault.{PlantFault}
+use Rattle.plant_faults.specs.declared.fault.PlantFault.TheVariants as fault
+use Rattle.plant_faults.specs.Fault.{number_of}
 use Rattle.plant.specs.Answers.{takes_memory}
 use Rattle.plant.specs.Feeding.{are_items, feed_numbers}
 use Rattle.plant.specs.Plant.{PlantState}

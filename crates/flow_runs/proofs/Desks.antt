@@ -5,8 +5,8 @@ use Rattle.stream_model.specs.declared.vocabulary.ItemType.{ItemType}
 use Rattle.stream_model.specs.Tags.{Mark}
 use Rattle.stream_model.specs.Network.{Network, role_at, is_source}
 use Rattle.stream_model.specs.Machine as machine
-use Rattle.plant.specs.declared.fault.PlantFault.{PlantFault}
-use Rattle.plant.specs.declared.fault.PlantFault.TheVariants.{NoSuchBlock, NotSource}
+use Rattle.plant_faults.specs.declared.fault.PlantFault.{PlantFault}
+use Rattle.plant_faults.specs.declared.fault.PlantFault.TheVariants.{NoSuchBlock, NotSource}
 use Rattle.plant.specs.Answers.{source_type_of}
 use Rattle.plant.specs.Feeding.{are_items, given_type}
 use Rattle.flow_runs.specs.AtDesk.{Refuses, Makes, feed_request}

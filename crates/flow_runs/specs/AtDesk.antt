@@ -10,8 +10,8 @@ use Rattle.stream_model.specs.Machine.{Reply, Refused}
 use Rattle.flowgraph.specs.Flowgraph.{Flowgraph, net_of}
 use Rattle.items.specs.Items.{type_of, numbers_of}
 use Rattle.items.specs.declared.stream_items.Items.{Items}
-use Rattle.plant.specs.declared.fault.PlantFault.{PlantFault}
-use Rattle.plant.specs.declared.fault.PlantFault.TheVariants as fault
+use Rattle.plant_faults.specs.declared.fault.PlantFault.{PlantFault}
+use Rattle.plant_faults.specs.declared.fault.PlantFault.TheVariants as fault
 use Rattle.plant.specs.Feeding.{are_items, given_type}
 use Rattle.threads.specs.History.{Asks, Noted}
 use Rattle.threads.specs.Desk.{DeskState, IsLogged, opened_at}

@@ -12,8 +12,8 @@ use Rattle.flowgraph.specs.declared.parts.BlockId.{BlockId}
 use Rattle.flowgraph.specs.Fault.{id}
 use Rattle.plant_storage.specs.Stores as stores
 use Rattle.kinds.specs.declared.kind.Kind.{Kind}
-use Rattle.plant.specs.declared.fault.PlantFault.{PlantFault}
-use Rattle.plant.specs.declared.fault.PlantFault.TheVariants as plant
+use Rattle.plant_faults.specs.declared.fault.PlantFault.{PlantFault}
+use Rattle.plant_faults.specs.declared.fault.PlantFault.TheVariants as plant
 use Rattle.plant.specs.Plant.{PlantState}
 use Rattle.plant.specs.Answers.{Answered, refusal_of, source_type_of}
 use Rattle.plant.specs.Feeding.{are_items, given_type, feed_numbers}

@@ -6,9 +6,9 @@ use Rattle.flowgraph.specs.Fault as graph_faults
 use Rattle.flowgraph.specs.declared.fault.Side.{Side}
 use Rattle.kind_schema.specs.declared.fault.KeyFault.{KeyFault}
 use Rattle.kind_schema.specs.declared.fault.KeyFault.TheVariants as key
-use Rattle.plant.specs.declared.fault.PlantFault.{PlantFault}
-use Rattle.plant.specs.declared.fault.PlantFault.TheVariants as plant
-use Rattle.plant.specs.Fault as feeds
+use Rattle.plant_faults.specs.declared.fault.PlantFault.{PlantFault}
+use Rattle.plant_faults.specs.declared.fault.PlantFault.TheVariants as plant
+use Rattle.plant_faults.specs.Fault as feeds
 use Rattle.kind_schema.specs.Fault as tables
 use Rattle.graph_file.specs.declared.fault.FilePlace.{FilePlace}
 use Rattle.graph_file.specs.declared.fault.FileFault.{FileFault}

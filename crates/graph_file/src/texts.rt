@@ -5,7 +5,7 @@ ghost use Rattle.std.specs.Fmt.{decimal};
 ghost use Rattle.flowgraph.specs.Fault as graphs;
 ghost use Rattle.flowgraph.specs.Fault.{side_text};
 ghost use Rattle.kind_schema.specs.Fault as tables;
-ghost use Rattle.plant.specs.Fault as feeds;
+ghost use Rattle.plant_faults.specs.Fault as feeds;
 ghost use Rattle.graph_file.specs.Texts as texts;
 ghost use Rattle.refusal_codes.specs.Texts.{head, part_text, refusal_text};
 

@@ -6,7 +6,7 @@ use Rattle.graph_file.specs.Refusals as files
 use Rattle.graph_file.specs.Texts.{fault_text}
 use Rattle.items.specs.Fault as items
 use Rattle.pipeline.specs.Faults as pipelines
-use Rattle.plant.specs.Fault as plants
+use Rattle.plant_faults.specs.Fault as plants
 use Rattle.threads.specs.Fault as runs
 use Rattle.magbelu.specs.declared.error.Error.{Error}
 use Rattle.magbelu.specs.declared.error.Error.TheVariants.{Items, Block, Graph, Plant, NoJob, BadKey, File, Pipeline, Run, Memory}

@@ -12,10 +12,10 @@ use Rattle.flowgraph.specs.declared.parts.BlockId.{BlockId}
 use Rattle.flowgraph.specs.Flowgraph.{net_of}
 use Rattle.kinds.specs.declared.kind.Kind.{Kind}
 use Rattle.kinds.specs.Kind.{meaning_of}
-use Rattle.plant.specs.declared.fault.PlantFault.{PlantFault}
-use Rattle.plant.specs.declared.fault.PlantFault.TheVariants as fault
+use Rattle.plant_faults.specs.declared.fault.PlantFault.{PlantFault}
+use Rattle.plant_faults.specs.declared.fault.PlantFault.TheVariants as fault
 use Rattle.plant.specs.Answers.{Answered, AnsweredAlways, refusal_of, source_type_of}
-use Rattle.plant.specs.Fault.{number_of}
+use Rattle.plant_faults.specs.Fault.{number_of}
 use Rattle.plant.specs.Feeding.{given_type}
 use Rattle.plant.specs.Plant.{PlantState}
 use Rattle.raw_items.specs.declared.byte_order.ByteOrder.{ByteOrder}

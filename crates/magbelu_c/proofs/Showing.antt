@@ -13,8 +13,8 @@ use Rattle.kinds.specs.Kind.{meaning_of}
 use Rattle.items.specs.Items.{type_of, numbers_of}
 use Rattle.items.specs.Tags.{tag_of}
 use Rattle.plant.specs.declared.answers.Piece as plant
-use Rattle.plant.specs.declared.fault.PlantFault.{PlantFault}
-use Rattle.plant.specs.declared.fault.PlantFault.TheVariants.{Memory, NoSuchBlock}
+use Rattle.plant_faults.specs.declared.fault.PlantFault.{PlantFault}
+use Rattle.plant_faults.specs.declared.fault.PlantFault.TheVariants.{Memory, NoSuchBlock}
 use Rattle.plant.specs.Answers.{AnsweredBy, piece_reply, refusal_of, takes_memory}
 use Rattle.plant.specs.Plant.{PlantState}
 use Rattle.raw_items.specs.declared.byte_order.ByteOrder.{ByteOrder}

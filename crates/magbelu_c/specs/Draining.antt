@@ -8,7 +8,7 @@ use Rattle.flowgraph.specs.Flowgraph.{net_of}
 use Rattle.kinds.specs.declared.kind.Kind.{Kind}
 use Rattle.kinds.specs.Kind.{meaning_of}
 use Rattle.plant.specs.Answers.{AnsweredBy, refusal_of}
-use Rattle.plant.specs.declared.fault.PlantFault.{PlantFault}
+use Rattle.plant_faults.specs.declared.fault.PlantFault.{PlantFault}
 use Rattle.raw_items.specs.declared.byte_order.ByteOrder.{ByteOrder}
 use Rattle.streaming.specs.Streaming.{HasDrainedTo, StreamingState, drained}
 use Rattle.flow_core.specs.RawEnds.{held_type}

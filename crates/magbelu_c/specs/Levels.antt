@@ -6,7 +6,7 @@ use Rattle.kinds.specs.declared.kind.Kind.{Kind}
 use Rattle.kinds.specs.Kind.{meaning_of}
 use Rattle.plant.specs.Answers.{refusal_of}
 use Rattle.plant.specs.Plant.{PlantState}
-use Rattle.plant.specs.declared.fault.PlantFault.{PlantFault}
+use Rattle.plant_faults.specs.declared.fault.PlantFault.{PlantFault}
 use Rattle.streaming.specs.Levels.{levels_at}
 use Rattle.streaming.specs.declared.levels.Levels.{Levels}
 use Rattle.magbelu_c.specs.declared.any_plant.AnyPlant.{AnyPlant}

@@ -9,9 +9,9 @@ use Rattle.flowgraph.specs.Flowgraph.{net_of}
 use Rattle.kinds.specs.declared.kind.Kind.{Kind}
 use Rattle.kinds.specs.Kind.{meaning_of}
 use Rattle.plant.specs.Answers.{Answered, source_type_of}
-use Rattle.plant.specs.Fault.{number_of}
+use Rattle.plant_faults.specs.Fault.{number_of}
 use Rattle.plant.specs.Plant.{PlantState}
-use Rattle.plant.specs.declared.fault.PlantFault.{PlantFault}
+use Rattle.plant_faults.specs.declared.fault.PlantFault.{PlantFault}
 use Rattle.raw_items.specs.declared.byte_order.ByteOrder.{ByteOrder}
 use Rattle.raw_items.specs.Layout.{cut_of, size_of}
 use Rattle.raw_items.specs.Values.{items_of}

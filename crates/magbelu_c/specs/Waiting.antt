@@ -5,8 +5,8 @@ use Rattle.machine_laws.specs.Waits.{Wait, IsOver, HasClaim, MayAct, ForFeed, Fo
 use Rattle.flowgraph.specs.Flowgraph.{net_of}
 use Rattle.kinds.specs.declared.kind.Kind.{Kind}
 use Rattle.kinds.specs.Kind.{meaning_of}
-use Rattle.plant.specs.declared.fault.PlantFault.{PlantFault}
-use Rattle.plant.specs.Fault.{number_of}
+use Rattle.plant_faults.specs.declared.fault.PlantFault.{PlantFault}
+use Rattle.plant_faults.specs.Fault.{number_of}
 use Rattle.plant.specs.Plant.{PlantState}
 use Rattle.plant.specs.Waits.{need_of}
 use Rattle.magbelu_c.specs.declared.reply.Reply.{Reply}

@@ -4,8 +4,8 @@ use Rattle.std.specs.Prelude.{nat_lt, Result, Ok, Err}
 use Rattle.std.proofs.lemmas.Bool.{cases_Bool}
 use Rattle.stream_model.specs.Network.{Network}
 use Rattle.machine_laws.specs.Waits.{ForFeed, Wait, repeated, wait_of}
-use Rattle.plant.specs.declared.fault.PlantFault.{PlantFault}
-use Rattle.plant.specs.declared.fault.PlantFault.TheVariants.{NoSuchBlock}
+use Rattle.plant_faults.specs.declared.fault.PlantFault.{PlantFault}
+use Rattle.plant_faults.specs.declared.fault.PlantFault.TheVariants.{NoSuchBlock}
 use Rattle.plant.specs.Waits.{need_of}
 use Rattle.streaming.specs.Streaming.{StreamingState}
 use Rattle.pipeline.specs.declared.end.End.{End}

@@ -12,8 +12,8 @@ use Rattle.machine_laws.specs.Sound.{Sound}
 use Rattle.machine_laws.proofs.Choices.{if_both, not_false}
 use Rattle.flowgraph.specs.declared.parts.BlockId.{BlockId}
 use Rattle.plant_laws.specs.Stored.{Firsts}
-use Rattle.plant.specs.declared.fault.PlantFault.{PlantFault}
-use Rattle.plant.specs.declared.fault.PlantFault.TheVariants as fault
+use Rattle.plant_faults.specs.declared.fault.PlantFault.{PlantFault}
+use Rattle.plant_faults.specs.declared.fault.PlantFault.TheVariants as fault
 use Rattle.plant.specs.Answers.{Answered, AnsweredAlways, refusal_of}
 use Rattle.plant.specs.Plant.{PlantState}
 use Rattle.streaming.specs.Streaming.{StaysBegun, StreamingState, drained}

@@ -5,7 +5,7 @@ use Rattle.stream_model.specs.declared.vocabulary.Role.TheVariants.{Source, Work
 use Rattle.stream_model.specs.Network.{Network, State, role_at}
 use Rattle.stream_model.specs.Machine.{Capacities}
 use Rattle.machine_laws.specs.Waits.{Wait, repeated, waited_for}
-use Rattle.plant.specs.declared.fault.PlantFault.{PlantFault}
+use Rattle.plant_faults.specs.declared.fault.PlantFault.{PlantFault}
 use Rattle.plant.specs.Waits.{need_of}
 use Rattle.streaming.specs.Streaming.{StreamingState}
 use Rattle.pipeline.specs.declared.end.End.{End}

@@ -4,9 +4,9 @@ use Rattle.std.specs.Fmt.{decimal}
 use Rattle.std.specs.Io.KnownBytes.{IsAtEnd}
 use Rattle.stream_model.specs.Machine.{Reply}
 use Rattle.flowgraph.specs.declared.parts.BlockId.{BlockId}
-use Rattle.plant.specs.declared.fault.PlantFault.{PlantFault}
-use Rattle.plant.specs.declared.fault.PlantFault.TheVariants as plant
-use Rattle.plant.specs.Fault as plants
+use Rattle.plant_faults.specs.declared.fault.PlantFault.{PlantFault}
+use Rattle.plant_faults.specs.declared.fault.PlantFault.TheVariants as plant
+use Rattle.plant_faults.specs.Fault as plants
 use Rattle.plant.specs.Answers.{refusal_of}
 use Rattle.pipeline.specs.declared.end.End.{End}
 use Rattle.pipeline.specs.declared.end.End.TheVariants as ends

@@ -4,8 +4,8 @@ use Rattle.stream_model.specs.declared.vocabulary.ItemType.{ItemType}
 use Rattle.stream_model.specs.Network.{Network, node_at, role_at, is_keeper}
 use Rattle.items.specs.Items.{type_of}
 use Rattle.raw_items.specs.declared.byte_order.ByteOrder.{ByteOrder}
-use Rattle.plant.specs.declared.fault.PlantFault.{PlantFault}
-use Rattle.plant.specs.declared.fault.PlantFault.TheVariants.{NoSuchBlock, NotSink}
+use Rattle.plant_faults.specs.declared.fault.PlantFault.{PlantFault}
+use Rattle.plant_faults.specs.declared.fault.PlantFault.TheVariants.{NoSuchBlock, NotSink}
 use Rattle.pipeline.specs.declared.end.End.{End}
 use Rattle.pipeline.specs.declared.end.End.TheVariants as ends
 use Rattle.pipeline.specs.declared.end.Output.{Output}

@@ -7,7 +7,7 @@ use Rattle.stream_model.specs.Network.{Network, State, role_at, is_keeper}
 use Rattle.settings.specs.Values.{value_of}
 use Rattle.plant.specs.Answers.{Answered, AnsweredAlways, AnsweredBy, reply_of}
 use Rattle.plant.specs.Settling.{HasSettled}
-use Rattle.plant.specs.declared.fault.PlantFault.{PlantFault}
+use Rattle.plant_faults.specs.declared.fault.PlantFault.{PlantFault}
 use Rattle.streaming.specs.declared.levels.Levels.{Levels}
 use Rattle.streaming.specs.Levels.{levels_at}
 use Rattle.streaming.specs.Streaming.{StreamingState, drained}

@@ -9,8 +9,8 @@ use Rattle.stream_model.specs.Tags.{Mark}
 use Rattle.stream_model.specs.Network.{Network, State, role_at, is_source}
 use Rattle.stream_model.specs.Machine as machine
 use Rattle.stream_model.specs.Machine.{Refused, feed_of}
-use Rattle.plant.specs.declared.fault.PlantFault.{PlantFault}
-use Rattle.plant.specs.declared.fault.PlantFault.TheVariants.{NoSuchBlock, NotSource}
+use Rattle.plant_faults.specs.declared.fault.PlantFault.{PlantFault}
+use Rattle.plant_faults.specs.declared.fault.PlantFault.TheVariants.{NoSuchBlock, NotSource}
 use Rattle.plant.specs.Answers.{refusal_of, source_type_of}
 use Rattle.plant.specs.Feeding.{are_items, given_type, feed_numbers}
 use Rattle.plant.proofs.Refusals.{IsSource, feed-refused}

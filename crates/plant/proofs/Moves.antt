@@ -34,7 +34,7 @@ use Rattle.plant_laws.proofs.Flying.{flights_keep_tags}
 use Rattle.plant.specs.Plant.{PlantState, Keeps}
 use Rattle.plant.specs.Answers.{refusal_of}
 use Rattle.plant.specs.Feeding.{length_with}
-use Rattle.plant.specs.declared.fault.PlantFault.{PlantFault}
+use Rattle.plant_faults.specs.declared.fault.PlantFault.{PlantFault}
 use Rattle.plant.proofs.Limits.{gain_stays}
 use Rattle.plant.proofs.Refusals.{IsSource, close-again, close-open, feed-stopped, feed-fits}
 

@@ -6,8 +6,8 @@ use Rattle.stream_model.specs.Tags.{Mark}
 use Rattle.stream_model.specs.Network.{Network, State, node_at, role_at, handed_at, is_source}
 use Rattle.stream_model.specs.Machine as machine
 use Rattle.stream_model.specs.Machine.{Reply, Refused, marks_fit, close_of, feed_of, with_handed, with_tape}
-use Rattle.plant.specs.declared.fault.PlantFault.{PlantFault}
-use Rattle.plant.specs.declared.fault.PlantFault.TheVariants.{NoSuchBlock, NotSource, Closed, TagPlace, TapeFull}
+use Rattle.plant_faults.specs.declared.fault.PlantFault.{PlantFault}
+use Rattle.plant_faults.specs.declared.fault.PlantFault.TheVariants.{NoSuchBlock, NotSource, Closed, TagPlace, TapeFull}
 use Rattle.firing_rules.specs.State.{tape_of}
 use Rattle.plant.specs.Plant.{PlantState}
 use Rattle.plant.specs.Answers.{Answered, refusal_of, source_type_of}

@@ -30,8 +30,8 @@ use Rattle.plant_storage.specs.declared.intake.Intake.{Intake}
 use Rattle.plant_storage.specs.declared.stores.Stores.{Stores}
 use Rattle.plant_storage.specs.Stores.{handed_of, settings_in, state_of, stored_in, rows_in, IsSet}
 use Rattle.plant_storage.proofs.Handing.{timeline_before, setting_before, stored_setting}
-use Rattle.plant.specs.declared.fault.PlantFault.{PlantFault}
-use Rattle.plant.specs.declared.fault.PlantFault.TheVariants.{NoSuchBlock, NotSource, NotSink, Closed, ItemRange, TagPlace, TapeFull, Late, NoSetting, WrongSetting, BeyondEnd, NoSuchPort, Memory}
+use Rattle.plant_faults.specs.declared.fault.PlantFault.{PlantFault}
+use Rattle.plant_faults.specs.declared.fault.PlantFault.TheVariants.{NoSuchBlock, NotSource, NotSink, Closed, ItemRange, TagPlace, TapeFull, Late, NoSetting, WrongSetting, BeyondEnd, NoSuchPort, Memory}
 use Rattle.plant.specs.Plant.{Keeps}
 use Rattle.plant.specs.Answers.{refusal_of, takes_memory}
 use Rattle.plant.specs.Setting.{unwanted, setting_fault}

@@ -17,9 +17,9 @@ use Rattle.plant.specs.declared.answers.Claim.{Claim}
 use Rattle.plant.specs.declared.answers.Claim.TheVariants as claim
 use Rattle.plant.specs.declared.answers.Step.{Step}
 use Rattle.plant.specs.declared.answers.Step.TheVariants as step
-use Rattle.plant.specs.declared.fault.PlantFault.{PlantFault}
-use Rattle.plant.specs.declared.fault.PlantFault.TheVariants.{NoSuchBlock, NotSource, Late, Memory}
-use Rattle.plant.specs.Fault.{number_of}
+use Rattle.plant_faults.specs.declared.fault.PlantFault.{PlantFault}
+use Rattle.plant_faults.specs.declared.fault.PlantFault.TheVariants.{NoSuchBlock, NotSource, Late, Memory}
+use Rattle.plant_faults.specs.Fault.{number_of}
 use Rattle.plant.specs.Plant.{PlantState}
 
 -- a refusal is a reply, unless it is out of memory

@@ -8,8 +8,8 @@ use Rattle.stream_model.specs.Network.{Network, State, node_at, role_at, is_sour
 use Rattle.stream_model.specs.Machine as machine
 use Rattle.stream_model.specs.Machine.{Reply, Refused}
 use Rattle.firing_rules.specs.declared.progress.Tape.{Tape}
-use Rattle.plant.specs.declared.fault.PlantFault.{PlantFault}
-use Rattle.plant.specs.declared.fault.PlantFault.TheVariants.{Closed, TagPlace, TapeFull}
+use Rattle.plant_faults.specs.declared.fault.PlantFault.{PlantFault}
+use Rattle.plant_faults.specs.declared.fault.PlantFault.TheVariants.{Closed, TagPlace, TapeFull}
 
 -- how long a tape is with so many items more, or the first reason why they and their marks cannot be put on it: it is
 -- closed, a mark lies on none of them, it would be longer than it may be

@@ -7,8 +7,8 @@ use Rattle.machine_laws.specs.Sound.{fired}
 use Rattle.ring_readers.specs.State.{most_kept, slowest_of}
 use Rattle.plant_laws.specs.Holds.{place_of, greatest_history}
 use Rattle.plant_storage.specs.declared.stored.Stored.{Stored}
-use Rattle.plant.specs.declared.fault.PlantFault.{PlantFault}
-use Rattle.plant.specs.declared.fault.PlantFault.TheVariants.{NoSuchBlock, NoSuchPort}
+use Rattle.plant_faults.specs.declared.fault.PlantFault.{PlantFault}
+use Rattle.plant_faults.specs.declared.fault.PlantFault.TheVariants.{NoSuchBlock, NoSuchPort}
 
 -- why nothing is reported of output p of block b, if so: there is no such block, or it does not use such an output
 abbrev pub port_fault : Network → ℕ → ℕ → Option PlantFault

@@ -1,4 +1,3 @@
-pub mod Fault
 pub mod Plant
 pub mod Own
 pub mod Flight

@@ -4,8 +4,8 @@ use Rattle.stream_model.specs.declared.vocabulary.Wanted.{Wanted}
 use Rattle.stream_model.specs.Settings.{Value}
 use Rattle.stream_model.specs.Network.{Network, node_at}
 use Rattle.stream_model.specs.Machine.{is_wanted}
-use Rattle.plant.specs.declared.fault.PlantFault.{PlantFault}
-use Rattle.plant.specs.declared.fault.PlantFault.TheVariants.{NoSuchBlock, NoSetting, WrongSetting}
+use Rattle.plant_faults.specs.declared.fault.PlantFault.{PlantFault}
+use Rattle.plant_faults.specs.declared.fault.PlantFault.TheVariants.{NoSuchBlock, NoSetting, WrongSetting}
 
 -- the refusal that a result is, if it is one
 abbrev pub fault_in : {R : Type 0} → Result R PlantFault → Option PlantFault

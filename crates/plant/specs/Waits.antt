@@ -5,8 +5,8 @@ use Rattle.stream_model.specs.Machine.{Capacities}
 use Rattle.machine_laws.specs.Waits.{Wait, wait_of}
 use Rattle.firing_rules.specs.declared.waits.BlockNeed.{BlockNeed}
 use Rattle.firing_rules.specs.Waits.{wait_seen}
-use Rattle.plant.specs.declared.fault.PlantFault.{PlantFault}
-use Rattle.plant.specs.declared.fault.PlantFault.TheVariants.{NoSuchBlock}
+use Rattle.plant_faults.specs.declared.fault.PlantFault.{PlantFault}
+use Rattle.plant_faults.specs.declared.fault.PlantFault.TheVariants.{NoSuchBlock}
 
 -- the wait that a result is, where it is one
 abbrev pub wait_in : Result BlockNeed PlantFault → Result Wait PlantFault

@@ -10,9 +10,9 @@ ghost use Rattle.plant_storage.specs.Stores.{mark_of};
 ghost use Rattle.plant.specs.Answers.{source_type_of};
 ghost use Rattle.plant.specs.Setting.{fault_in, setting_fault};
 
-use crate::fault::PlantFault;
 use flowgraph::{Block, BlockId, Valid};
 use items::{ItemType, Mark};
+use plant_faults::PlantFault;
 use settings::Value;
 use stream_model::{Role, Wanted};
 

@@ -14,12 +14,12 @@ ghost use Rattle.plant.specs.Memory.{LosesNone, NeedsNone};
 ghost use Rattle.plant.specs.Answers.{Answered, IsOf, is_claimed, claim_reply, reply_of, step_reply};
 
 use crate::answers::{Claim, Step};
-use crate::fault::PlantFault;
 use crate::parts::Parts;
 use crate::source_tapes::SourceTapes;
 use claimed_work::{Claimed, Job, Lent};
 use firing_rules::Decision;
 use flowgraph::{Block, BlockId};
+use plant_faults::PlantFault;
 use plant_transfers::{lend, make_room, release};
 use std::alloc::{AllocError, Global};
 use std::mem::replace;

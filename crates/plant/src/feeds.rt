@@ -16,12 +16,12 @@ ghost use Rattle.plant.specs.Feeding.{feed_numbers, length_with};
 
 use crate::answers::{Closed, Fed, Taken};
 use crate::checks::{fit, same_type, source_type, wanted};
-use crate::fault::PlantFault;
 use crate::parts::Parts;
 use crate::source_tapes::counts_of;
 use firing_rules::Tape;
 use flowgraph::{Block, BlockId};
 use items::{ItemFault, Items, Mark};
+use plant_faults::PlantFault;
 use settings::Value;
 use std::alloc::Global;
 

@@ -32,7 +32,6 @@ ghost use Rattle.plant.specs.Waits.{need_of, wait_in};
 
 use crate::answers::{Claim, Closed, Did, Fed, Headway, Piece, Settled, SinkView, Step, Taken};
 use crate::checks::source_type;
-use crate::fault::PlantFault;
 use crate::feeds::LONGEST_TAPE;
 use crate::handed::{Handed, Opening};
 use crate::parts::Parts;
@@ -42,6 +41,7 @@ use claimed_work::{Job, Worked};
 use firing_rules::BlockNeed;
 use flowgraph::{Block, BlockId, Valid};
 use items::{ItemType, Items, Mark};
+use plant_faults::PlantFault;
 use plant_storage::Stored;
 use rates::Rates;
 use settings::Value;

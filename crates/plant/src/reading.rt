@@ -13,9 +13,9 @@ ghost use Rattle.plant.specs.Keeping.{IsKeptOf, port_fault};
 ghost use Rattle.plant.specs.Setting.{fault_in};
 
 use crate::answers::{Piece, SinkView};
-use crate::fault::PlantFault;
 use crate::parts::Parts;
 use flowgraph::{Block, BlockId};
+use plant_faults::PlantFault;
 use plant_storage::Stored;
 use std::alloc::Global;
 

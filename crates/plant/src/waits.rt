@@ -11,11 +11,11 @@ ghost use Rattle.firing_rules.specs.Waits.{wait_seen};
 ghost use Rattle.plant.specs.Plant.{IsRight, plant_of};
 ghost use Rattle.plant.specs.Waits.{need_of, wait_in};
 
-use crate::fault::PlantFault;
 use crate::parts::Parts;
 use crate::source_tapes::SourceTapes;
 use firing_rules::BlockNeed;
 use flowgraph::{Block, BlockId};
+use plant_faults::PlantFault;
 
 impl<B: Block> Parts<B> {
     /// What a claim of a block would come to, or what it waits for.

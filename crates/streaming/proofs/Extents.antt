@@ -16,8 +16,8 @@ use Rattle.plant_laws.specs.Stored.{Collected, nothing_collected, sink_at}
 use Rattle.plant_laws.proofs.Reading.{reads_are_cut_out}
 use Rattle.plant_storage.specs.declared.stores.Stores.{Stores}
 use Rattle.plant_storage.specs.Stores.{collected_of, state_of, stored_in}
-use Rattle.plant.specs.declared.fault.PlantFault.{PlantFault}
-use Rattle.plant.specs.declared.fault.PlantFault.TheVariants.{ItemRange}
+use Rattle.plant_faults.specs.declared.fault.PlantFault.{PlantFault}
+use Rattle.plant_faults.specs.declared.fault.PlantFault.TheVariants.{ItemRange}
 use Rattle.plant.specs.Plant.{Keeps}
 use Rattle.streaming.specs.declared.draining.Appended.{Appended}
 use Rattle.streaming.specs.Draining.{MayBeRefused, drain_fault}

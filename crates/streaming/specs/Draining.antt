@@ -5,8 +5,8 @@ use Rattle.stream_model.specs.Numbers.{types_agree}
 use Rattle.stream_model.specs.Tags.{Tag, tags_within}
 use Rattle.stream_model.specs.Network.{Network, State, node_at, progress_at, role_at, is_keeper}
 use Rattle.machine_laws.specs.Sound.{fired}
-use Rattle.plant.specs.declared.fault.PlantFault.{PlantFault}
-use Rattle.plant.specs.declared.fault.PlantFault.TheVariants.{NoSuchBlock, NotSink, ItemRange, Memory}
+use Rattle.plant_faults.specs.declared.fault.PlantFault.{PlantFault}
+use Rattle.plant_faults.specs.declared.fault.PlantFault.TheVariants.{NoSuchBlock, NotSink, ItemRange, Memory}
 use Rattle.streaming.specs.declared.draining.Appended.{Appended}
 use Rattle.streaming.specs.Streaming.{stream_into, tags_into}
 

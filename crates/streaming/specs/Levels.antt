@@ -2,8 +2,8 @@
 use Rattle.std.specs.Prelude.{ℕ, ◌-◌, List, [], ◌∷◌, length, not, nat_lt, if◌then◌else◌, Option, Some, None, Result, Ok, Err}
 use Rattle.stream_model.specs.Network.{Connection, Network, State, node_at, handed_at, writers_of, taken_by, given_by}
 use Rattle.machine_laws.specs.Sound.{fired}
-use Rattle.plant.specs.declared.fault.PlantFault.{PlantFault}
-use Rattle.plant.specs.declared.fault.PlantFault.TheVariants.{NoSuchBlock}
+use Rattle.plant_faults.specs.declared.fault.PlantFault.{PlantFault}
+use Rattle.plant_faults.specs.declared.fault.PlantFault.TheVariants.{NoSuchBlock}
 use Rattle.streaming.specs.declared.levels.Levels.{Levels}
 
 -- the block that writes a block's first input, if one does

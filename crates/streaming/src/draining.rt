@@ -8,7 +8,7 @@ ghost use Rattle.stream_model.specs.Network.{node_at, role_at, is_keeper};
 ghost use Rattle.items.specs.Items.{type_of, numbers_of, spare_of};
 ghost use Rattle.items.specs.Tags.{tag_of};
 ghost use Rattle.flowgraph.specs.Flowgraph.{net_of};
-ghost use Rattle.plant.specs.declared.fault.PlantFault.TheVariants.{NoSuchBlock, NotSink, ItemRange, Memory};
+ghost use Rattle.plant_faults.specs.declared.fault.PlantFault.TheVariants.{NoSuchBlock, NotSink, ItemRange, Memory};
 ghost use Rattle.plant.specs.Plant.{IsRight, plant_of, spans_in};
 ghost use Rattle.plant.specs.Answers.{AnsweredBy, reply_of, piece_reply};
 ghost use Rattle.streaming.specs.Streaming.{GoesOn};

@@ -18,7 +18,7 @@ ghost use Rattle.settings.specs.Values.{value_of};
 ghost use Rattle.tags.specs.TagList.{tags_from};
 ghost use Rattle.flowgraph.specs.Flowgraph.{net_of};
 ghost use Rattle.plant_storage.specs.Stores.{mark_of};
-ghost use Rattle.plant.specs.declared.fault.PlantFault.TheVariants.{NoSuchBlock, NotSink};
+ghost use Rattle.plant_faults.specs.declared.fault.PlantFault.TheVariants.{NoSuchBlock, NotSink};
 ghost use Rattle.plant.specs.Plant.{ForgetsNone};
 ghost use Rattle.plant.specs.Answers.{Answered, AnsweredAlways, AnsweredBy, piece_reply, reply_of, source_type_of, step_reply};
 ghost use Rattle.plant.specs.Feeding.{feed_numbers};

@@ -13,8 +13,8 @@ use Rattle.plant_laws.specs.Calls.{tells_change}
 use Rattle.plant_laws.proofs.Resting.{otherwise_nothing_changes}
 use Rattle.firing_rules.specs.declared.decision.Need.{Need}
 use Rattle.firing_rules.specs.declared.decision.Need.TheVariants as need
-use Rattle.plant.specs.declared.fault.PlantFault.{PlantFault}
-use Rattle.plant.specs.declared.fault.PlantFault.TheVariants.{NoSuchBlock, NotSource, NotSink, Closed, ItemRange, TagPlace, TapeFull, Late, NoSetting, WrongSetting, BeyondEnd, NoSuchPort, Memory}
+use Rattle.plant_faults.specs.declared.fault.PlantFault.{PlantFault}
+use Rattle.plant_faults.specs.declared.fault.PlantFault.TheVariants.{NoSuchBlock, NotSource, NotSink, Closed, ItemRange, TagPlace, TapeFull, Late, NoSetting, WrongSetting, BeyondEnd, NoSuchPort, Memory}
 use Rattle.plant.specs.Handed.{OpeningState}
 use Rattle.plant.specs.Plant.{PlantState}
 use Rattle.threads.specs.declared.entry.CallerId.{CallerId}

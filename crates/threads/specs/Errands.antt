@@ -8,7 +8,7 @@ use Rattle.plant.specs.Answers.{claim_reply, reply_of, step_reply}
 use Rattle.plant.specs.declared.answers.Claim.{Claim}
 use Rattle.plant.specs.declared.answers.Claim.TheVariants as claim
 use Rattle.plant.specs.declared.answers.Step.{Step}
-use Rattle.plant.specs.declared.fault.PlantFault.{PlantFault}
+use Rattle.plant_faults.specs.declared.fault.PlantFault.{PlantFault}
 use Rattle.threads.specs.declared.engine.Engine.{Engine}
 use Rattle.threads.specs.declared.errands.Errand.{Errand}
 use Rattle.threads.specs.declared.errands.Errand.TheVariants as errand

@@ -5,7 +5,7 @@ use Rattle.stream_model.specs.Machine as machine
 use Rattle.claimed_work.specs.Jobs.{WorkedState}
 use Rattle.plant.specs.Answers.{refusal_of, waiting_reply}
 use Rattle.plant.specs.declared.answers.Did.{Did}
-use Rattle.plant.specs.declared.fault.PlantFault.{PlantFault}
+use Rattle.plant_faults.specs.declared.fault.PlantFault.{PlantFault}
 use Rattle.threads.specs.declared.engine.Engine.{Engine}
 use Rattle.threads.specs.declared.locked.Locked.{Locked}
 use Rattle.threads.specs.declared.locked.Next.{Next}

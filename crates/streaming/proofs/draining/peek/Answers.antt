@@ -7,7 +7,7 @@ use Rattle.items.specs.Tags.{tag_of}
 use Rattle.flowgraph.specs.Flowgraph.{net_of}
 use Rattle.plant_storage.specs.Stores.{state_of}
 use Rattle.plant.specs.declared.answers.Piece.{Piece}
-use Rattle.plant.specs.declared.fault.PlantFault.{PlantFault}
+use Rattle.plant_faults.specs.declared.fault.PlantFault.{PlantFault}
 use Rattle.plant.specs.Answers.{AnsweredBy, piece_reply, reply_of}
 use Rattle.streaming.specs.Streaming.{GoesOn}
 use Rattle.streaming.proofs.Joins.{goes_on}

@@ -1,8 +1,8 @@
 //! The refusals of a plant.
 
 ghost use Rattle.std.specs.Prelude.{◌≡◌, Some};
-ghost use Rattle.plant.specs.Fault.{row_of, text_of};
-ghost use Rattle.plant.specs.declared.fault.PlantFault.TheVariants.{Memory};
+ghost use Rattle.plant_faults.specs.Fault.{row_of, text_of};
+ghost use Rattle.plant_faults.specs.declared.fault.PlantFault.TheVariants.{Memory};
 
 use refusal_codes::Refusal;
 use std::alloc::AllocError;
