@@ -1,4 +1,5 @@
 //! A file that is cut, or has another byte somewhere: it is read and opened, or refused.
+use file_plants::OpensPlants;
 use graph_file::read_graph;
 use refusal_codes::Refusal;
 use std::alloc::{AllocError, Global};

@@ -2,7 +2,8 @@
 //! together: what slices give, one behind the other, is what the whole run gives, items and tags.
 use super::forgetful::{Draft, Sets, Settable};
 use flowgraph::{BlockId, Valid};
-use graph_file::{open_later, read_graph};
+use file_plants::open_later;
+use graph_file::read_graph;
 use items::{Mark, Tag, TagKey};
 use kinds::Kind;
 use rates::{Rates, balance};

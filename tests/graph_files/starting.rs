@@ -1,5 +1,6 @@
 //! Graph files to start from, as `flow new` writes them.
 use diagnostics::{is_link, starting_graph};
+use file_plants::OpensPlants;
 use graph_file::read_graph;
 use kinds::KindName;
 use std::test::Fail;

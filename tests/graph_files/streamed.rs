@@ -1,4 +1,5 @@
 //! A graph file as a plant that streams.
+use file_plants::OpensPlants;
 use graph_file::{FileFault, read_graph};
 use items::{ItemType, Items};
 use kinds::Kind;

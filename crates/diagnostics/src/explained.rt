@@ -1,6 +1,4 @@
 //! Why a graph file is refused, and where.
-ghost use Rattle.std.specs.Prelude.{◌↔◌, IfOk, IsNone};
-ghost use Rattle.graph_file.specs.Accepted.{IsAccepted};
 
 use crate::document::Document;
 use crate::feed_faults::feed_finding;
@@ -11,50 +9,31 @@ use crate::looks::Look;
 use crate::places::{Place, place_in};
 use crate::table_faults::table_finding;
 use crate::tokens::line_of;
-use graph_file::{Depth, FileFault, fault_of};
+use graph_file::FileFault;
 use std::alloc::{AllocError, Global};
 
-/// Where and why a graph file of this name is refused, in lines that show the place, or `None` if it is not refused.
+/// Where and why a graph file of this name is refused, by its fault: lines that show the place. It fails only if the
+/// allocator refuses.
 pub fn explain(
     alloc: Global,
     name: &str,
     text: &[u8],
-    depth: Depth,
-) -> Result<Option<String>, AllocError>
-    ensures { IfOk result (λ lines. IsNone lines ↔ IsAccepted depth text.now) }
-{
-    match found(alloc, text, depth)? {
-        None => Ok(None),
-        Some(finding) => {
-            let source = Source {
-                name,
-                text,
-                first_line: 1,
-                look: Look::Line,
-            };
-            Ok(Some(framed(alloc, &source, &finding)?))
-        }
-    }
+    fault: &FileFault,
+) -> Result<String, AllocError> {
+    let finding = finding_of(alloc, text, fault)?;
+    let source = Source {
+        name,
+        text,
+        first_line: 1,
+        look: Look::Line,
+    };
+    framed(alloc, &source, &finding)
 }
 
-/// Where and why a graph file is refused, or `None` where it is not.
-pub fn place_of(alloc: Global, text: &[u8], depth: Depth) -> Result<Option<Place>, AllocError>
-    ensures { IfOk result (λ place. IsNone place ↔ IsAccepted depth text.now) }
-{
-    match found(alloc, text, depth)? {
-        None => Ok(None),
-        Some(finding) => Ok(Some(place_in(text, finding))),
-    }
-}
-
-// What is wrong with a graph file, or `None` where it is not refused.
-fn found(alloc: Global, text: &[u8], depth: Depth) -> Result<Option<Finding>, AllocError>
-    ensures { IfOk result (λ finding. IsNone finding ↔ IsAccepted depth text.now) }
-{
-    match fault_of(alloc, text, depth)? {
-        None => Ok(None),
-        Some(fault) => Ok(Some(finding_of(alloc, text, &fault)?)),
-    }
+/// The place in a graph file of its fault, and the reason.
+pub fn place_of(alloc: Global, text: &[u8], fault: &FileFault) -> Result<Place, AllocError> {
+    let finding = finding_of(alloc, text, fault)?;
+    Ok(place_in(text, finding))
 }
 
 // The place of a fault, and the message about it.

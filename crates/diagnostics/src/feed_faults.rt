@@ -10,7 +10,7 @@ use graph_file::FilePlace;
 use items::ItemType;
 use kind_schema::Key;
 use kind_schema::table::{number_at, text_at, values_at};
-use plant::PlantFault;
+use plant_faults::PlantFault;
 use std::alloc::AllocError;
 use toml::Table;
 

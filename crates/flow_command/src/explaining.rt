@@ -1,10 +1,14 @@
 //! What follows the line of a refusal, if the words ask for it. If memory runs out, nothing does.
 
+ghost use Rattle.std.specs.Prelude.{◌↔◌, IfOk, IsNone};
+ghost use Rattle.file_plants.specs.Accepted.{IsAccepted};
+
 use crate::words::Call;
 use byte_io::ByteIn;
 use diagnostics::{KeptLines, at_device, explain};
+use file_plants::{Depth, fault_of};
 use flow_runs::serve::Action;
-use graph_file::Depth;
+use std::alloc::{AllocError, Global};
 use std::io::Error;
 
 /// The exit status of a refusal.
@@ -16,13 +20,28 @@ pub fn explain_file(rt: &HostRuntime, call: &Call<'_>, file: &[u8]) -> bool {
         Action::Check | Action::Draw(_) => Depth::Graph,
         _ => Depth::Plant,
     };
-    match explain(rt.alloc(), call.path, file, depth) {
+    match explained(rt.alloc(), call.path, file, depth) {
         Ok(Some(lines)) => {
             let _ = eprint!(rt; "{lines}");
             true
         }
         Ok(None) => false,
         Err(_) => true,
+    }
+}
+
+// Where and why a graph file of this name is refused, or `None` if it is not.
+fn explained(
+    alloc: Global,
+    name: &str,
+    text: &[u8],
+    depth: Depth,
+) -> Result<Option<String>, AllocError>
+    ensures { IfOk result (λ lines. IsNone lines ↔ IsAccepted depth text.now) }
+{
+    match fault_of(alloc, text, depth)? {
+        None => Ok(None),
+        Some(fault) => Ok(Some(explain(alloc, name, text, &fault)?)),
     }
 }
 

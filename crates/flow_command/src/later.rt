@@ -8,8 +8,8 @@ ghost use Rattle.slices.specs.Firings.{looks_of};
 ghost use Rattle.slices.specs.Kinds.{counts_of, look_back_of};
 ghost use Rattle.slices.specs.Plans.{HasGoneOn, NoneCounts, counting_of};
 
+use file_plants::open_later;
 use flowgraph::Valid;
-use graph_file::open_later;
 use kinds::Kind;
 use rates::{Rates, balance};
 use slices::first_to_count;

@@ -14,7 +14,7 @@ use Rattle.plant.specs.declared.answers.Settled.{Settled}
 use Rattle.plant.specs.declared.answers.Settled.TheVariants.{Done, Quiet}
 use Rattle.graph_file.specs.Refusals.{Refusal}
 use Rattle.graph_file.specs.Blocks.{drafted}
-use Rattle.graph_file.specs.Opening.{Opened, opened_of}
+use Rattle.file_plants.specs.Opening.{Opened, opened_of}
 use Rattle.closing.specs.Closing.{with_all_closed}
 use Rattle.byte_io.specs.Ends.{AppendsBeginning}
 use Rattle.flow_core.specs.Session.{in_state, turn}

@@ -20,7 +20,8 @@ use Rattle.graph_file.specs.Steps.{then}
 use Rattle.graph_file.specs.Blocks.{Draft}
 use Rattle.graph_file.specs.Feeds.{Fed}
 use Rattle.graph_file.specs.File.{Content, file_of}
-use Rattle.graph_file.specs.Opening.{Opened, opened, opened_in, validated, feed_now, feed_found, after_feed, after_feeds, mark_of}
+use Rattle.file_plants.specs.Opening.{Opened, opened, opened_in, feed_now, feed_found, after_feed, after_feeds, mark_of}
+use Rattle.graph_file.specs.Validity.{validated}
 use Rattle.byte_io.specs.Ends.{AppendsBeginning}
 use Rattle.byte_io.specs.declared.ends.Broken.{Broken}
 use Rattle.plant.proofs.Idles.{idle-same, opening-idle}

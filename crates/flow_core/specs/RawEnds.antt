@@ -10,7 +10,7 @@ use Rattle.items.specs.Tags.{tag_of}
 use Rattle.plant.specs.declared.answers.Piece.{Piece}
 use Rattle.plant.specs.Settling.{StepsLead}
 use Rattle.graph_file.specs.Blocks.{Draft}
-use Rattle.graph_file.specs.Opening.{Opened}
+use Rattle.file_plants.specs.Opening.{Opened}
 use Rattle.raw_items.specs.declared.byte_order.ByteOrder.{ByteOrder}
 use Rattle.raw_items.specs.Values.{all_bytes_of}
 use Rattle.byte_io.specs.Ends.{AppendsBeginning}

@@ -14,7 +14,8 @@ use Rattle.graph_file.specs.Refusals.{Refusal, IsRefused, syntax}
 use Rattle.graph_file.specs.Steps.{then}
 use Rattle.graph_file.specs.Blocks.{Draft, drafted}
 use Rattle.graph_file.specs.File.{Content, file_of}
-use Rattle.graph_file.specs.Opening.{Opened, opened, opened_of, streamed, validated}
+use Rattle.file_plants.specs.Opening.{Opened, opened, opened_of, streamed}
+use Rattle.graph_file.specs.Validity.{validated}
 use Rattle.drawings.specs.Drawings.{drawn_text}
 use Rattle.drawings.specs.declared.drawing.Format.{Format}
 use Rattle.graph_model.specs.Rates.{balance_of}

@@ -6,7 +6,7 @@ ghost use Rattle.std.specs.Io.KnownBytes.{Appends};
 ghost use Rattle.flowgraph.specs.Flowgraph.{net_of};
 ghost use Rattle.kinds.specs.Kind.{meaning_of};
 ghost use Rattle.plant.specs.Settling.{HasSettled};
-ghost use Rattle.graph_file.specs.Opening.{opened_of};
+ghost use Rattle.file_plants.specs.Opening.{opened_of};
 ghost use Rattle.byte_io.specs.Ends.{AppendsBeginning};
 ghost use Rattle.flow_core.specs.Serve.{IsEnd, writes_in};
 ghost use Rattle.flow_core.specs.declared.fault.Fault.TheVariants.{Script};

@@ -3,11 +3,12 @@
 ghost use Rattle.std.specs.Prelude.{◌≡◌, Ok, true, IfOk, IfErr};
 ghost use Rattle.stream_model.specs.Machine.{is_idle};
 ghost use Rattle.graph_file.specs.Blocks.{drafted};
-ghost use Rattle.graph_file.specs.Opening.{opened_of};
+ghost use Rattle.file_plants.specs.Opening.{opened_of};
 ghost use Rattle.graph_file.specs.Refusals.{IsRefused};
 ghost use Rattle.plant.specs.Plant.{ForgetsNone};
 ghost use Rattle.flow_core.specs.Serve.{graph_in, plant_in, streamed_in};
 
+use file_plants::OpensPlants;
 use flowgraph::Valid;
 use graph_file::{FileFault, read_graph};
 use kinds::Kind;

@@ -6,7 +6,7 @@ ghost use Rattle.stream_model.specs.Machine.{is_idle};
 ghost use Rattle.flowgraph.specs.Flowgraph.{net_of};
 ghost use Rattle.kinds.specs.Kind.{meaning_of};
 ghost use Rattle.plant.specs.Settling.{HasSettled};
-ghost use Rattle.graph_file.specs.Opening.{opened_of};
+ghost use Rattle.file_plants.specs.Opening.{opened_of};
 ghost use Rattle.flow_core.specs.RawEnds.{StepsToRest};
 ghost use Rattle.flow_core.specs.Serve.{IsRunAlone, IsRunAloneTo, Refuses, Writes, WritesNot, plant_in, writes_in};
 

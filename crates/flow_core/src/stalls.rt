@@ -9,7 +9,7 @@ ghost use Rattle.machine_laws.specs.Waits.{next_of, wait_of};
 ghost use Rattle.flowgraph.specs.Flowgraph.{net_of};
 ghost use Rattle.kinds.specs.Kind.{meaning_of};
 ghost use Rattle.graph_file.specs.Blocks.{drafted};
-ghost use Rattle.graph_file.specs.Opening.{opened_of};
+ghost use Rattle.file_plants.specs.Opening.{opened_of};
 ghost use Rattle.flow_core.specs.Serve.{Explains, Puts, Remarks, stream};
 ghost use Rattle.flow_core.specs.Stalls.{full_in, is_for_room, lowest_from, open_line, open_text, opener_line, ring_at, ring_from, ring_text, stall_text, uneven_line, wait_line, waits_text};
 

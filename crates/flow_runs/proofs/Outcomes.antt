@@ -11,7 +11,7 @@ use Rattle.plant.specs.Settling.{HasSettled}
 use Rattle.plant.specs.declared.answers.Settled.TheVariants.{Done, Quiet}
 use Rattle.graph_file.specs.Refusals.{Refusal}
 use Rattle.graph_file.specs.Blocks.{drafted}
-use Rattle.graph_file.specs.Opening.{Opened, opened_of}
+use Rattle.file_plants.specs.Opening.{Opened, opened_of}
 use Rattle.flowgraph.specs.Agreeing.{graphs_agree}
 use Rattle.threads.specs.Outcomes.{HasReturned, handed_of}
 use Rattle.threads.specs.History.{Noted, IsRunOf}

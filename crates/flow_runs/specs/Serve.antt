@@ -9,7 +9,7 @@ use Rattle.kinds.specs.Kind.{meaning_of}
 use Rattle.plant.specs.Plant.{PlantState}
 use Rattle.graph_file.specs.Refusals.{Refusal, IsRefused}
 use Rattle.graph_file.specs.Blocks.{drafted}
-use Rattle.graph_file.specs.Opening.{Opened, opened_of}
+use Rattle.file_plants.specs.Opening.{Opened, opened_of}
 use Rattle.threads.specs.History.{Noted, AreOwn, IsRunOf}
 use Rattle.threads.specs.Live.{AreLogs}
 use Rattle.byte_io.specs.Ends.{AppendsBeginning}

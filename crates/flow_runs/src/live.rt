@@ -11,7 +11,7 @@ ghost use Rattle.plant.specs.Handed.{OpeningState};
 ghost use Rattle.plant.specs.Settling.{HasSettled};
 ghost use Rattle.threads.specs.History.{Noted};
 ghost use Rattle.threads.specs.Live.{HasReached, LiveRunEndsIn, opening_of};
-ghost use Rattle.graph_file.specs.Opening.{opened_of};
+ghost use Rattle.file_plants.specs.Opening.{opened_of};
 ghost use Rattle.flow_core.specs.Serve.{Writes};
 ghost use Rattle.flow_runs.specs.Serve.{AnswersLines, IsLiveTo, StopsLines, StopsLive};
 ghost use Rattle.flow_runs.specs.Threads.{HasCome, IsCause, IsEndOf};

@@ -2,7 +2,7 @@
 
 ghost use Rattle.std.specs.Prelude.{◌≡◌, ◌+◌, ◌<◌, ◌-◌, ◌^◌, IfOk, IfErr};
 ghost use Rattle.std.specs.Option.{option_map};
-ghost use Rattle.graph_file.specs.Opening.{opened_of};
+ghost use Rattle.file_plants.specs.Opening.{opened_of};
 ghost use Rattle.flow_core.specs.Serve.{Writes, plant_in};
 ghost use Rattle.flow_runs.specs.Serve.{Fails, IsRun, IsRunTo, RunsNot, writes_in};
 

@@ -2,7 +2,7 @@
 
 ghost use Rattle.std.specs.Prelude.{None, ◌≡◌, ◌<◌, ◌-◌, ◌^◌, IfOk, IfErr};
 ghost use Rattle.std.specs.Option.{option_map};
-ghost use Rattle.graph_file.specs.Opening.{opened_of};
+ghost use Rattle.file_plants.specs.Opening.{opened_of};
 ghost use Rattle.flow_core.specs.Serve.{stream};
 ghost use Rattle.flow_runs.specs.Serve.{Serves, Does, DoesNot, Grows, Becomes, reads_in, writes_in};
 

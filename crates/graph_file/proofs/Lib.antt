@@ -1,6 +1,4 @@
 pub mod BlockNames
-pub mod Feeding
 pub mod Validity
 pub mod TagLists
 pub mod BlankTexts
-mod Refusing

@@ -19,7 +19,7 @@ use Rattle.kinds.specs.Kind.{meaning_of}
 use Rattle.graph_file.specs.declared.fault.FilePlace.TheVariants.{Top}
 use Rattle.graph_file.specs.Refusals.{Refusal, of_graph, short, IsTold}
 use Rattle.graph_file.specs.Blocks.{Draft, drafted}
-use Rattle.graph_file.specs.Opening.{named_block, name_at, unless_wrong, validated}
+use Rattle.graph_file.specs.Validity.{named_block, name_at, unless_wrong, validated}
 
 -- a refusal names a block of the network
 abbrev IsNamed : Network → GraphFault → Type 0

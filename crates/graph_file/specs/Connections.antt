@@ -1,5 +1,5 @@
 -- The connections of a graph file.
-use Rattle.std.specs.Prelude.{ℕ, suc, ◌-◌, ◌^◌, min, ℤ, pos, negsuc, List, [], ◌∷◌, ◌++◌, Option, Some, None, Result, Ok, Err, IsOk, bytes_eq, if◌then◌else◌}
+use Rattle.std.specs.Prelude.{ℕ, suc, ◌-◌, ◌^◌, min, ℤ, pos, negsuc, List, [], ◌∷◌, ◌++◌, Option, Some, None, Result, Ok, Err, IsOk, bytes_eq, if◌then◌else◌, Bool, true, false}
 use Rattle.toml.specs.Data.{Items, no_items, item, Members, as_table}
 use Rattle.stream_model.specs.Network as network
 use Rattle.graph_model.specs.Graphs as model
@@ -19,7 +19,6 @@ use Rattle.graph_file.specs.declared.fault.FilePlace.TheVariants as places
 use Rattle.graph_file.specs.Refusals.{Refusal, of_graph, negative_port, short, block_name}
 use Rattle.graph_file.specs.Blocks.{Draft}
 use Rattle.graph_file.specs.Steps.{unless}
-use Rattle.std.specs.Prelude.{Bool, true, false}
 
 -- the name in the table of a block
 abbrev pub name_in : Option Members → List ℕ

@@ -5,5 +5,4 @@ pub mod Blocks
 pub mod Connections
 pub mod Feeds
 pub mod File
-pub mod Opening
-pub mod Accepted
+pub mod Validity

@@ -6,8 +6,6 @@ use Rattle.flowgraph.specs.Fault as graph_faults
 use Rattle.flowgraph.specs.declared.fault.Side.{Side}
 use Rattle.kind_schema.specs.declared.fault.KeyFault.{KeyFault}
 use Rattle.kind_schema.specs.declared.fault.KeyFault.TheVariants as key
-use Rattle.plant_faults.specs.declared.fault.PlantFault.{PlantFault}
-use Rattle.plant_faults.specs.declared.fault.PlantFault.TheVariants as plant
 use Rattle.plant_faults.specs.Fault as feeds
 use Rattle.kind_schema.specs.Fault as tables
 use Rattle.graph_file.specs.declared.fault.FilePlace.{FilePlace}
@@ -58,10 +56,6 @@ told_table place (key.WrongType k) = Some (at_table place (key.WrongType k))
 told_table place key.UnknownKind = Some (at_table place key.UnknownKind)
 told_table place (key.BadParameter p) = Some (at_table place (key.BadParameter p))
 told_table place key.Memory = None
-
-abbrev pub told_feed : ℕ → PlantFault → Option Refusal
-told_feed n plant.Memory = None
-told_feed n fault = Some (of_feed n (feeds.number_of fault))
 
 -- the number by which a fault is reported, and the name beside it
 abbrev pub row_of : FileFault → ℕ × List ℕ

@@ -1,7 +1,7 @@
 //! Why a graph file is refused.
 ghost use Rattle.std.specs.Prelude.{◌≡◌, ◌↔◌, ◌⊎◌, None, Some};
 ghost use Rattle.graph_file.specs.declared.fault.FileFault.TheVariants.{Memory};
-ghost use Rattle.graph_file.specs.Refusals.{told, told_table, told_feed, of_graph, negative_port, short, block_name, row_of};
+ghost use Rattle.graph_file.specs.Refusals.{told, told_table, of_graph, negative_port, short, block_name, row_of};
 ghost use Rattle.refusal_codes.specs.Texts.{refusal_text};
 ghost use Rattle.graph_file.specs.Texts as texts;
 
@@ -10,7 +10,7 @@ use arrayvec::ArrayString;
 use flowgraph::{GraphFault, Side};
 use items::is_name;
 use kind_schema::KeyFault;
-use plant::PlantFault;
+use plant_faults::PlantFault;
 use refusal_codes::{Refusal, RefusalText};
 use std::alloc::{AllocError, AllocFailed};
 use std::fmt;
@@ -125,17 +125,6 @@ pub(crate) fn table_fault(place: FilePlace, fault: KeyFault) -> FileFault
     match fault {
         KeyFault::Memory => FileFault::Memory,
         fault => FileFault::Table { place, fault },
-    }
-}
-
-/// How a refusal of a feed, counted from 0, is reported.
-pub(crate) fn feed_fault(feed: usize, fault: PlantFault) -> FileFault
-    ensures told { told result ≡ told_feed feed fault }
-    ensures memory { (result ≡ FileFault.Memory) ↔ (fault ≡ PlantFault.Memory) }
-{
-    match fault {
-        PlantFault::Memory => FileFault::Memory,
-        fault => FileFault::Feed { feed, fault },
     }
 }
 

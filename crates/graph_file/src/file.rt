@@ -50,7 +50,7 @@ pub fn read_graph(alloc: Global, text: &[u8]) -> Result<File, FileFault>
 }
 
 /// Reads the blocks of an accepted graph file once more, in the order of the file.
-pub(crate) fn read_blocks(alloc: Global, text: &[u8]) -> Result<Vec<Kind>, FileFault>
+pub fn read_blocks(alloc: Global, text: &[u8]) -> Result<Vec<Kind>, FileFault>
     ensures ok { IfOk result (λ blocks. IsUtf8 text.now × (meanings_of (parse_document text.now)
         ≡ Ok (map meaning_of blocks.items))) }
     ensures refused { IsUtf8 text.now → IfErr result (IsRefused (meanings_of (parse_document text.now))) }

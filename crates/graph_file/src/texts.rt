@@ -12,7 +12,7 @@ ghost use Rattle.refusal_codes.specs.Texts.{head, part_text, refusal_text};
 use crate::fault::FilePlace;
 use flowgraph::{GraphFault, Side};
 use kind_schema::KeyFault;
-use plant::PlantFault;
+use plant_faults::PlantFault;
 use refusal_codes::text::{EMPTY, SPACE};
 use refusal_codes::{Refusal, RefusalText, TextPart};
 

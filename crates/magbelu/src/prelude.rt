@@ -5,7 +5,7 @@ pub use crate::blocks::{
 };
 pub use crate::custom::Either;
 pub use crate::error::Error;
-pub use crate::files::read_graph;
+pub use crate::files::{OpensPlants, read_graph};
 pub use crate::graphs::{BlockId, Graph, Options, Policy};
 pub use crate::plants::{Claim, Piece, Pipeline, Plant, Settled, Step, StreamingPlant};
 pub use crate::runs::{Outcome, RunError, RunOptions, TopBlock};

@@ -5,7 +5,7 @@ use Rattle.std.specs.Prelude.{◌⊎◌, Result, Ok, Err, IsOk}
 use Rattle.stream_model.specs.Network.{State}
 use Rattle.flowgraph.specs.declared.parts.BlockId.{BlockId}
 use Rattle.graph_file.specs.Blocks.{Draft}
-use Rattle.graph_file.specs.Opening.{Opened}
+use Rattle.file_plants.specs.Opening.{Opened}
 use Rattle.raw_items.specs.declared.byte_order.ByteOrder.{ByteOrder}
 use Rattle.flow_core.specs.declared.fault.Fault.TheVariants.{Script}
 use Rattle.flow_core.specs.declared.script.ScriptFault.TheVariants.{Memory}

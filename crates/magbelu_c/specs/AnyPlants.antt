@@ -2,7 +2,7 @@
 use Rattle.std.specs.Prelude.{◌≡◌, Bool, true, false, List, ℕ, Result, Ok}
 use Rattle.kinds.specs.declared.kind.Kind.{Kind}
 use Rattle.plant.specs.Plant.{ForgetsNone, PlantState}
-use Rattle.graph_file.specs.Opening.{Opened, opened_of}
+use Rattle.file_plants.specs.Opening.{Opened, opened_of}
 use Rattle.graph_file.specs.Refusals.{Refusal}
 use Rattle.flow_core.specs.Serve.{plant_in, streamed_in}
 use Rattle.magbelu_c.specs.declared.any_plant.AnyPlant.{AnyPlant}

@@ -5,7 +5,7 @@ use Rattle.stream_model.specs.Machine.{is_all_done}
 use Rattle.flowgraph.specs.declared.parts.BlockId.{BlockId}
 use Rattle.graph_file.specs.declared.fault.FileFault.{FileFault}
 use Rattle.graph_file.specs.Blocks.{Draft}
-use Rattle.graph_file.specs.Opening.{Opened}
+use Rattle.file_plants.specs.Opening.{Opened}
 use Rattle.graph_file.specs.Refusals.{IsRefused}
 use Rattle.raw_items.specs.declared.byte_order.ByteOrder.{ByteOrder}
 use Rattle.flow_core.specs.declared.fault.Fault.TheVariants.{File, Script}

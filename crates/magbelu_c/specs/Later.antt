@@ -2,7 +2,7 @@
 use Rattle.std.specs.Prelude.{◌≡◌, ℕ, ◌<◌, ◌≤◌, List, [], ⊤, Option, Some, None, Ok}
 use Rattle.flowgraph.specs.Flowgraph.{Flowgraph, net_of}
 use Rattle.graph_file.specs.declared.fault.FileFault.{FileFault}
-use Rattle.graph_file.specs.Opening.{opened_of}
+use Rattle.file_plants.specs.Opening.{opened_of}
 use Rattle.graph_file.specs.Refusals.{IsRefused}
 use Rattle.kinds.specs.declared.kind.Kind.{Kind}
 use Rattle.kinds.specs.Kind.{meaning_of}

@@ -7,7 +7,7 @@ use crate::answer::{Answer, badly, well};
 use crate::idle::Idle;
 use diagnostics::explain;
 use flow_core::fault::Fault;
-use graph_file::Depth;
+use graph_file::FileFault;
 use std::alloc::Global;
 
 /// Tells whether the plant of a graph file can be opened. If not, the output shows the place in the file and what is
@@ -24,17 +24,17 @@ pub extern "C" fn magbelu_bytes_explain(
 {
     let fault = match Idle::open(alloc, file) {
         Ok(_) => return well(0, &[], output),
-        Err(fault) => Fault::File(fault),
+        Err(fault) => fault,
     };
-    let place = place_in(alloc, name, file);
-    badly(alloc, &fault, place.as_bytes(), output, error)
+    let place = place_in(alloc, name, file, &fault);
+    badly(alloc, &Fault::File(fault), place.as_bytes(), output, error)
 }
 
 // The lines that show where a file is refused. A name that is not UTF-8 becomes `?`.
-fn place_in(alloc: Global, name: &[u8], file: &[u8]) -> String {
+fn place_in(alloc: Global, name: &[u8], file: &[u8], fault: &FileFault) -> String {
     let name = std::str::from_utf8(name).unwrap_or("?");
-    match explain(alloc, name, file, Depth::Plant) {
-        Ok(Some(lines)) => lines,
-        Ok(None) | Err(_) => String::new(alloc),
+    match explain(alloc, name, file, fault) {
+        Ok(lines) => lines,
+        Err(_) => String::new(alloc),
     }
 }

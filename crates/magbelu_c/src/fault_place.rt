@@ -7,7 +7,7 @@ use crate::idle::Idle;
 use crate::shows::show;
 use diagnostics::{Place, place_of};
 use flow_core::fault::Fault;
-use graph_file::Depth;
+use graph_file::FileFault;
 use refusal_codes::Refusal;
 use std::alloc::Global;
 
@@ -37,17 +37,17 @@ pub extern "C" fn magbelu_bytes_place(alloc: Global, file: &[u8], why: &mut [u8]
 {
     let fault = match Idle::open(alloc, file) {
         Ok(_) => return nowhere(),
-        Err(fault) => Fault::File(fault),
+        Err(fault) => fault,
     };
-    let place = place_in(alloc, file);
-    told(&fault, &place, why)
+    let place = place_in(alloc, file, &fault);
+    told(&Fault::File(fault), &place, why)
 }
 
-// The place at which a file is refused, or none, with no reason.
-fn place_in(alloc: Global, file: &[u8]) -> Place {
-    match place_of(alloc, file, Depth::Plant) {
-        Ok(Some(place)) => place,
-        Ok(None) | Err(_) => Place {
+// The place at which a file is refused, or none, with no reason, where memory runs out.
+fn place_in(alloc: Global, file: &[u8], fault: &FileFault) -> Place {
+    match place_of(alloc, file, fault) {
+        Ok(place) => place,
+        Err(_) => Place {
             line: 0,
             column: 0,
             length: 0,

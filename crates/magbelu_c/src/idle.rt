@@ -11,7 +11,7 @@ ghost use Rattle.plant.specs.Feeding.{feed_numbers};
 ghost use Rattle.plant.specs.Waits.{need_of, wait_in};
 ghost use Rattle.settings.specs.Values.{value_of};
 ghost use Rattle.plant_storage.specs.Stores.{mark_of};
-ghost use Rattle.graph_file.specs.Opening.{opened_of};
+ghost use Rattle.file_plants.specs.Opening.{opened_of};
 ghost use Rattle.graph_file.specs.Refusals.{IsRefused};
 ghost use Rattle.flow_core.specs.RawEnds.{StepsToRest};
 ghost use Rattle.flow_core.specs.RawFeeds.{IsFedBy, StopsFeeding};

@@ -6,9 +6,10 @@ ghost use Rattle.magbelu_c.specs.Later.{HasNoLater, IsLater, IsLaterStream, OfGr
 use crate::any_plant::AnyPlant;
 use crate::slice_plans::plan_of;
 use crate::slicing::Uncut;
+use file_plants::open_later;
 use flow_core::opening::open_stream;
 use flowgraph::Valid;
-use graph_file::{FileFault, open_later};
+use graph_file::FileFault;
 use kinds::Kind;
 use slices::{Asks, MOST_ITERATIONS};
 use std::alloc::Global;

@@ -2,7 +2,7 @@ use Rattle.std.proofs.Common.{◌∙◌, ap, refl}
 use Rattle.flowgraph.specs.Flowgraph.{Flowgraph}
 use Rattle.kinds.specs.declared.kind.Kind.{Kind}
 use Rattle.graph_file.specs.Blocks.{drafted}
-use Rattle.graph_file.specs.Opening.{opened_of}
+use Rattle.file_plants.specs.Opening.{opened_of}
 use Rattle.flow_core.specs.Reports.{check_text}
 use Rattle.flow_core.proofs.check.check_plant.Goals as goal
 

@@ -1,6 +1,6 @@
 use Rattle.std.proofs.Common.{◌∙◌}
 use Rattle.graph_file.specs.File.{seen}
-use Rattle.graph_file.specs.Opening.{opened, opened_of}
+use Rattle.file_plants.specs.Opening.{opened, opened_of}
 use Rattle.flow_core.specs.Serve.{content_in}
 use Rattle.flow_core.proofs.Serving.{content_ok, content_refused, then_ok, then_refused, refused_then, opened-idle}
 use Rattle.flow_core.proofs.Outcomes.{if_ok, if_err}

@@ -1,6 +1,6 @@
 use Rattle.std.proofs.Common.{◌∙◌}
 use Rattle.graph_file.specs.File.{seen}
-use Rattle.graph_file.specs.Opening.{streamed}
+use Rattle.file_plants.specs.Opening.{streamed}
 use Rattle.flow_core.specs.Serve.{content_in}
 use Rattle.flow_core.proofs.Serving.{content_ok, content_refused, then_ok, then_refused, refused_then}
 use Rattle.flow_core.proofs.Outcomes.{if_ok, if_err}

@@ -1,6 +1,6 @@
 use Rattle.std.proofs.Common.{◌∙◌}
 use Rattle.graph_file.specs.File.{Content, seen}
-use Rattle.graph_file.specs.Opening.{validated}
+use Rattle.graph_file.specs.Validity.{validated}
 use Rattle.flow_core.specs.Serve.{content_in}
 use Rattle.flow_core.proofs.Serving.{content_ok, content_refused, then_ok, then_refused, refused_then}
 use Rattle.flow_core.proofs.opening.valid_graph.Goals as goal

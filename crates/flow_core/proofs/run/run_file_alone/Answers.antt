@@ -1,4 +1,4 @@
-use Rattle.graph_file.specs.Opening.{opened_of}
+use Rattle.file_plants.specs.Opening.{opened_of}
 use Rattle.flow_core.proofs.Outcomes.{ran}
 use Rattle.flow_core.proofs.run.run_file_alone.Goals as goal
 

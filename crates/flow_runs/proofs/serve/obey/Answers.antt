@@ -1,7 +1,7 @@
 use Rattle.std.proofs.Common.{◌≡◌, ◌+◌, ◌∙◌, ℕ, List, refl, ap, sym, subst}
 use Rattle.std.specs.Prelude.{Option}
 use Rattle.std.specs.Option.{option_map}
-use Rattle.graph_file.specs.Opening.{opened_of}
+use Rattle.file_plants.specs.Opening.{opened_of}
 use Rattle.flow_core.specs.Serve.{IsCheck, IsCheckOfFeeds, IsPicture, IsRunAlone, IsRunAloneTo, Writes, graph_in, plant_in}
 use Rattle.flow_core.proofs.Outcomes.{if_ok, if_err, no_more, no_reads, wrote_run}
 use Rattle.flow_runs.specs.Serve.{IsRun}

@@ -3,7 +3,7 @@ use Rattle.flowgraph.specs.Flowgraph.{Flowgraph}
 use Rattle.kinds.specs.declared.kind.Kind.{Kind}
 use Rattle.plant.specs.Plant.{PlantState}
 use Rattle.graph_file.specs.Blocks.{drafted}
-use Rattle.graph_file.specs.Opening.{Opened, opened_of}
+use Rattle.file_plants.specs.Opening.{Opened, opened_of}
 use Rattle.magbelu_c.specs.Between.{Misfed, NoPlant}
 use Rattle.magbelu_c.proofs.Entries.{misnamed, no_memory, untaken}
 use Rattle.magbelu_c.proofs.between.run_between.Goals as goal

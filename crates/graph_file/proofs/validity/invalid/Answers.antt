@@ -1,10 +1,10 @@
 use Rattle.std.proofs.Common.{◌≡◌, ◌≢◌, Some, refl, ap, ◌∙◌, sym}
 use Rattle.flowgraph.specs.declared.fault.GraphFault.TheVariants.{Memory}
 use Rattle.graph_file.specs.Blocks.{drafted}
-use Rattle.graph_file.specs.Opening.{named_block}
+use Rattle.graph_file.specs.Validity.{named_block}
 use Rattle.graph_file.proofs.BlockNames.{IsUtf8-is_name}
 use Rattle.graph_file.proofs.Validity.{named-inside, only_memory, validated-told}
-use Rattle.graph_file.proofs.opening.invalid.Goals as goal
+use Rattle.graph_file.proofs.validity.invalid.Goals as goal
 
 pub name-requires : goal.name-requires
 name-requires c =

@@ -1,6 +1,6 @@
 use Rattle.std.proofs.Common.{arith}
-use Rattle.graph_file.proofs.Feeding.{marks_more}
-use Rattle.graph_file.proofs.opening.marks_of.Goals as goal
+use Rattle.file_plants.proofs.Feeding.{marks_more}
+use Rattle.file_plants.proofs.opening.marks_of.Goals as goal
 
 pub loop-mark-preserved : goal.loop-mark-preserved
 loop-mark-preserved c = (

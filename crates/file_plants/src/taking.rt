@@ -13,11 +13,12 @@ ghost use Rattle.plant.specs.Feeding.{feed_numbers};
 ghost use Rattle.plant.specs.Opening.{opening_plant_within};
 ghost use Rattle.plant.specs.Plant.{ForgetsNone, PlantState};
 
-use crate::fault::FileFault;
 use flowgraph::{BlockId, Valid};
+use graph_file::FileFault;
 use items::{ItemType, Mark};
 use kinds::Kind;
-use plant::{Fed, Plant, PlantFault};
+use plant::{Fed, Plant};
+use plant_faults::PlantFault;
 use std::alloc::Global;
 use streaming::StreamingPlant;
 

@@ -1,10 +1,10 @@
 //! Which graph files are accepted.
 ghost use Rattle.std.specs.Prelude.{◌≡◌, ◌↔◌, Some, IfOk, IfSome, IsNone, IsSome, IsUtf8};
-ghost use Rattle.graph_file.specs.Accepted.{IsAccepted, IsWhy};
+ghost use Rattle.file_plants.specs.Accepted.{IsAccepted, IsWhy};
 ghost use Rattle.graph_file.specs.Refusals.{told};
 
-use crate::fault::FileFault;
-use crate::file::read_graph;
+use crate::opening::OpensPlants;
+use graph_file::{FileFault, read_graph};
 use std::alloc::{AllocError, Global};
 
 /// How far a file is read.

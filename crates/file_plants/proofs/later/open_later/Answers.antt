@@ -4,7 +4,7 @@ use Rattle.kinds.specs.declared.kind.Kind.{Kind}
 use Rattle.kinds.specs.Kind.{meaning_of}
 use Rattle.plant.specs.Plant.{PlantState}
 use Rattle.streaming.specs.Streaming.{StreamingState, streaming_opening}
-use Rattle.graph_file.proofs.later.open_later.Goals as goal
+use Rattle.file_plants.proofs.later.open_later.Goals as goal
 
 -- what opens on a graph opens on its own
 own : {E : Type 0} (g : Flowgraph Kind) (r : Result (StreamingState Kind) E) → IfOk r (λ p. p.plant ≡ streaming_opening meaning_of g) → IfOk r (λ p. p.plant ≡ streaming_opening meaning_of p.plant.graph)

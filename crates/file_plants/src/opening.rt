@@ -1,46 +1,37 @@
 //! From a graph file to a plant that is fed.
 
-ghost use Rattle.std.specs.Prelude.{◌≡◌, ◌≢◌, ◌↔◌, Ok, Some, IfOk, IfErr, OnOk, OnErr, IsErrOf, map, length, ◌<◌};
-ghost use Rattle.graph_model.specs.Graphs as graph_model;
-ghost use Rattle.flowgraph.specs.declared.fault.Limit.TheVariants.{Blocks};
-ghost use Rattle.flowgraph.specs.Fault.{told};
+ghost use Rattle.std.specs.Prelude.{◌≡◌, ◌↔◌, Ok, IfOk, IfErr, OnOk, OnErr, IsErrOf, map, length, ◌<◌};
 ghost use Rattle.plant_storage.specs.Stores as stores;
-ghost use Rattle.kinds.specs.Kind.{meaning_of};
 ghost use Rattle.plant.specs.Plant.{ForgetsNone};
-ghost use Rattle.graph_file.specs.Refusals.{IsRefused};
+ghost use Rattle.graph_file.specs.Refusals.{IsRefused, told};
 ghost use Rattle.graph_file.specs.Blocks.{drafted};
 ghost use Rattle.graph_file.specs.Feeds.{fed};
 ghost use Rattle.graph_file.specs.File.{seen};
-ghost use Rattle.graph_file.specs.Opening.{opened, opened_with, opened_of, streamed, validated, feed_now, after_feed, after_feeds, mark_of, named_block, FeedCopies};
+ghost use Rattle.file_plants.specs.Opening.{opened, opened_with, opened_of, streamed, feed_now, after_feed, after_feeds, mark_of, told_feed, FeedCopies};
 
-use crate::fault::{FileFault, FilePlace, feed_fault, graph_fault};
-use crate::feed::{Feed, FileMark};
-use crate::file::File;
 use crate::taking::TakesFeeds;
-use flowgraph::{BlockId, Graph, GraphFault, Valid};
+use flowgraph::Valid;
+use graph_file::{Feed, File, FileFault, FileMark};
 use items::Mark;
 use kinds::Kind;
-use plant::{Plant, PlantFault};
+use plant::Plant;
+use plant_faults::PlantFault;
 use std::alloc::{AllocError, Global};
 use streaming::StreamingPlant;
 
-impl File {
-    /// The valid graph of the file with its feeds, or why the graph as a whole is refused, or out of memory. It does
-    /// not test the feeds.
-    pub fn validate(self, alloc: Global) -> Result<(Valid<Kind>, Vec<Feed>), FileFault>
-        ensures ok { IfOk result (λ valid. validated (seen self).graph ≡ Ok (drafted valid.0)) }
-        ensures same { IfOk result (λ valid. (valid.0 ≡ self.graph) × (valid.1 ≡ self.feeds)) }
-        ensures refused { IfErr result (IsRefused (validated (seen self).graph)) }
-    {
-        match self.graph.validate(alloc) {
-            Ok(valid) => Ok((valid, self.feeds)),
-            Err((graph, fault)) => Err(invalid(&graph, fault)),
-        }
-    }
-
+/// What opens plants: a graph file that was read.
+pub trait OpensPlants: Sized {
     /// The plant of the file's graph, with its feeds on the tapes, in their order, and its sources open; or why the
     /// graph as a whole is refused, or the first refused feed, or out of memory.
-    pub fn open(self, alloc: Global) -> Result<Plant<Kind>, FileFault>
+    fn open(self, alloc: Global) -> Result<Plant<Kind>, FileFault>;
+
+    /// Like `open`, for a plant that streams. Its tapes may come to hold as many items as the graph's greatest gain
+    /// allows.
+    fn stream(self, alloc: Global) -> Result<StreamingPlant<Kind>, FileFault>;
+}
+
+impl OpensPlants for File {
+    fn open(self, alloc: Global) -> Result<Plant<Kind>, FileFault>
         ensures ok { IfOk result (λ plant. opened (seen self) ≡ Ok (opened_of plant)) }
         ensures refused { IfErr result (IsRefused (opened (seen self))) }
     {
@@ -48,9 +39,7 @@ impl File {
         plant_fed(alloc, graph, &feeds)
     }
 
-    /// Like `open`, for a plant that streams. Its tapes may come to hold as many items as the graph's greatest gain
-    /// allows.
-    pub fn stream(self, alloc: Global) -> Result<StreamingPlant<Kind>, FileFault>
+    fn stream(self, alloc: Global) -> Result<StreamingPlant<Kind>, FileFault>
         ensures ok { IfOk result (λ plant. streamed (seen self) ≡ Ok (opened_of plant.plant)) }
         ensures none { IfOk result (λ plant. ForgetsNone plant.kept) }
         ensures refused { IfErr result (IsRefused (streamed (seen self))) }
@@ -75,36 +64,6 @@ fn plant_fed<P: TakesFeeds>(
     match take_feeds(alloc, &mut plant, feeds) {
         Ok(()) => Ok(plant),
         Err(fault) => Err(fault),
-    }
-}
-
-// The refusal of a graph, with the name of the block that it is about.
-fn invalid(graph: &Graph<Kind>, fault: GraphFault) -> FileFault
-    requires { fault ≢ GraphFault.Memory → told Blocks (graph_model.graph_fault (drafted graph.now).net) ≡ Some fault }
-    ensures refused { IsRefused (validated (drafted graph.now)) result }
-    ensures memory { (result ≡ FileFault.Memory) ↔ (fault ≡ GraphFault.Memory) }
-{
-    let Some(block) = named_block(fault) else {
-        return FileFault::Memory;
-    };
-    match std::str::from_utf8(graph.name(block)) {
-        Ok(name) => graph_fault(FilePlace::Top, fault, name),
-        // (the name of a block is ASCII)
-        Err(_) => unreachable!(),
-    }
-}
-
-// The block that a refusal of a whole graph names.
-fn named_block(fault: GraphFault) -> Option<BlockId>
-    ensures { result ≡ named_block fault }
-{
-    match fault {
-        GraphFault::PortGap { block, .. }
-        | GraphFault::TooFewPorts { block }
-        | GraphFault::OneToOne { block }
-        | GraphFault::Loop { block }
-        | GraphFault::Gain { block } => Some(block),
-        _ => None,
     }
 }
 
@@ -174,5 +133,16 @@ fn placed(mark: &FileMark) -> Mark
         offset: u64::try_from(mark.at).unwrap_or(u64::MAX),
         key: mark.key,
         value: mark.value,
+    }
+}
+
+// How a refusal of a feed, counted from 0, is reported.
+fn feed_fault(feed: usize, fault: PlantFault) -> FileFault
+    ensures told { told result ≡ told_feed feed fault }
+    ensures memory { (result ≡ FileFault.Memory) ↔ (fault ≡ PlantFault.Memory) }
+{
+    match fault {
+        PlantFault::Memory => FileFault::Memory,
+        fault => FileFault::Feed { feed, fault },
     }
 }

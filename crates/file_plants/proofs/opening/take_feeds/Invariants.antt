@@ -1,8 +1,8 @@
 use Rattle.std.proofs.Common.{◌≡◌, drop, map}
 use Rattle.graph_file.specs.Blocks.{drafted}
 use Rattle.graph_file.specs.Feeds.{fed}
-use Rattle.graph_file.specs.Opening.{after_feeds}
-use Rattle.graph_file.proofs.opening.take_feeds.Given as goal
+use Rattle.file_plants.specs.Opening.{after_feeds}
+use Rattle.file_plants.proofs.opening.take_feeds.Given as goal
 
 abbrev pub invariant-loop-number : goal.invariant-loop-number
 invariant-loop-number g l =

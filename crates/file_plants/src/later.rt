@@ -12,10 +12,9 @@ ghost use Rattle.slices.specs.Plans.{HasGoneOn};
 ghost use Rattle.graph_file.specs.Refusals.{IsRefused};
 ghost use Rattle.graph_file.specs.File.{meanings_of};
 
-use crate::fault::FileFault;
-use crate::file::read_blocks;
 use crate::taking::TakesFeeds;
 use flowgraph::Valid;
+use graph_file::{FileFault, read_blocks};
 use kinds::Kind;
 use slices::later_graph;
 use std::alloc::Global;

@@ -18,8 +18,8 @@ use Rattle.plant.specs.Plant.{PlantState}
 use Rattle.plant.specs.Answers.{Answered, refusal_of, source_type_of}
 use Rattle.plant.specs.Feeding.{are_items, given_type, feed_numbers}
 use Rattle.graph_file.specs.declared.feed.FileMark.{FileMark}
-use Rattle.graph_file.specs.Refusals.{Refusal, of_feed, IsTold, told_feed}
-use Rattle.graph_file.specs.Opening.{mark_of, after_feed}
+use Rattle.graph_file.specs.Refusals.{Refusal, of_feed, IsTold}
+use Rattle.file_plants.specs.Opening.{told_feed, mark_of, after_feed}
 
 -- a feed is taken, or refused by a number
 abbrev pub IsAnswer : Reply → Type 0

@@ -1,24 +1,21 @@
 -- What a graph file opens: the plant of its graph, with its feeds on the tapes.
-use Rattle.std.specs.Prelude.{◌≡◌, ◌⊎◌, ◌<◌, true, length, IsOk, ℕ, suc, ◌-◌, ◌^◌, ℤ, pos, negsuc, List, [], ◌∷◌, map, position, bytes_eq, slice_index_or, Option, Some, None, Result, Ok, Err}
+use Rattle.std.specs.Prelude.{◌≡◌, ◌⊎◌, ◌<◌, true, length, IsOk, ℕ, suc, ◌-◌, ◌^◌, ℤ, pos, negsuc, List, [], ◌∷◌, map, position, bytes_eq, Option, Some, None, Result, Ok, Err}
 use Rattle.stream_model.specs.Network.{Network, State, longest_tape, opening_within}
 use Rattle.stream_model.specs.Tags.{Mark}
 use Rattle.stream_model.specs.Machine as machine
 use Rattle.stream_model.specs.Machine.{Capacities, Reply, Refused}
 use Rattle.graph_model.specs.Gains.{longest_within_gain}
-use Rattle.graph_model.specs.Graphs.{graph_fault}
 use Rattle.graph_model.specs.Rates.{balance_of, capacities_of}
-use Rattle.flowgraph.specs.declared.fault.Limit.TheVariants.{Blocks}
-use Rattle.flowgraph.specs.declared.fault.GraphFault.{GraphFault}
-use Rattle.flowgraph.specs.declared.fault.GraphFault.TheVariants.{PortGap, Loop, TooFewPorts, OneToOne, Gain}
-use Rattle.flowgraph.specs.declared.parts.BlockId.{BlockId}
-use Rattle.flowgraph.specs.Fault.{told}
 use Rattle.kinds.specs.declared.kind.Kind.{Kind}
+use Rattle.plant_faults.specs.declared.fault.PlantFault.{PlantFault}
+use Rattle.plant_faults.specs.declared.fault.PlantFault.TheVariants as plant
+use Rattle.plant_faults.specs.Fault as feeds
 use Rattle.plant.specs.Plant.{PlantState}
 use Rattle.plant.specs.Feeding.{feed_numbers}
 use Rattle.plant.specs.Answers.{takes_memory, source_type_of}
-use Rattle.graph_file.specs.declared.fault.FilePlace.TheVariants.{Top}
 use Rattle.graph_file.specs.declared.feed.FileMark.{FileMark}
-use Rattle.graph_file.specs.Refusals.{Refusal, of_graph, of_feed, short}
+use Rattle.graph_file.specs.Refusals.{Refusal, of_feed}
+use Rattle.graph_file.specs.Validity.{validated}
 use Rattle.graph_file.specs.Steps.{then}
 use Rattle.graph_file.specs.Blocks.{Draft, drafted}
 use Rattle.graph_file.specs.Feeds.{Fed}
@@ -33,28 +30,6 @@ pub record Opened : Type 0 where
 -- what is seen of a plant
 abbrev pub opened_of : PlantState Kind → Opened
 opened_of p = record { draft = drafted p.graph; capacities = p.capacities; state = p.state }
-
--- the block that a refusal of a whole graph names
-abbrev pub named_block : GraphFault → Option BlockId
-named_block (PortGap b side port) = Some b
-named_block (TooFewPorts b) = Some b
-named_block (OneToOne b) = Some b
-named_block (Loop b) = Some b
-named_block (Gain b) = Some b
-named_block _ = None
-
-abbrev pub name_at : List (List ℕ) → Option BlockId → List ℕ
-name_at names None = []
-name_at names (Some b) = slice_index_or names b.0 []
-
--- a graph, unless something is wrong with it as a whole
-abbrev pub unless_wrong : Draft → Option GraphFault → Result Draft Refusal
-unless_wrong d None = Ok d
-unless_wrong d (Some fault) = Err (of_graph Top fault (short (name_at d.names (named_block fault))))
-
--- a valid graph, or what is wrong with it
-abbrev pub validated : Draft → Result Draft Refusal
-validated d = unless_wrong d (told Blocks (graph_fault d.net))
 
 -- a place of a tag, as a source is fed: one before the first item lies outside all items, as one behind every tape does
 abbrev pub place_of : ℤ → ℕ
@@ -111,3 +86,8 @@ opened c = opened_within (λ _. longest_tape) c
 
 abbrev pub streamed : Content → Result Opened Refusal
 streamed c = opened_within longest_within_gain c
+
+-- the refusal that a refused feed is; none where it is out of memory
+abbrev pub told_feed : ℕ → PlantFault → Option Refusal
+told_feed n plant.Memory = None
+told_feed n fault = Some (of_feed n (feeds.number_of fault))

@@ -3,12 +3,12 @@ use Rattle.stream_model.specs.Machine.{Reply}
 use Rattle.stream_model.specs.Network.{State}
 use Rattle.plant_storage.specs.Stores as stores
 use Rattle.plant.specs.Feeding.{feed_numbers}
-use Rattle.graph_file.specs.Refusals.{IsTold, told_feed}
+use Rattle.graph_file.specs.Refusals.{IsTold}
+use Rattle.file_plants.specs.Opening.{told_feed, feed_now, feed_found, after_feed, mark_of}
 use Rattle.graph_file.specs.Blocks.{drafted}
 use Rattle.graph_file.specs.Feeds.{fed}
-use Rattle.graph_file.specs.Opening.{feed_now, feed_found, after_feed, mark_of}
-use Rattle.graph_file.proofs.Feeding.{feed_numbers-answer, after_feed-refused, no_source-told, found-Some}
-use Rattle.graph_file.proofs.opening.take_feed.Goals as goal
+use Rattle.file_plants.proofs.Feeding.{feed_numbers-answer, after_feed-refused, no_source-told, found-Some}
+use Rattle.file_plants.proofs.opening.take_feed.Goals as goal
 
 pub returns-in-Err-clause-refused : goal.returns-in-Err-clause-refused
 returns-in-Err-clause-refused g c =

@@ -5,9 +5,10 @@ use Rattle.graph_file.specs.declared.fault.FileFault.{FileFault}
 use Rattle.graph_file.specs.Refusals.{IsRefused}
 use Rattle.graph_file.specs.Steps.{then}
 use Rattle.graph_file.specs.File.{file_of}
-use Rattle.graph_file.specs.Opening.{opened, validated}
-use Rattle.graph_file.specs.declared.accepted.Depth.{Depth}
-use Rattle.graph_file.specs.declared.accepted.Depth.TheVariants.{Graph, Plant}
+use Rattle.file_plants.specs.Opening.{opened}
+use Rattle.graph_file.specs.Validity.{validated}
+use Rattle.file_plants.specs.declared.accepted.Depth.{Depth}
+use Rattle.file_plants.specs.declared.accepted.Depth.TheVariants.{Graph, Plant}
 
 -- the file is taken: its graph is valid, and where its plant is asked for, its feeds go onto the tapes
 abbrev pub IsAccepted : Depth → List ℕ → Type 0

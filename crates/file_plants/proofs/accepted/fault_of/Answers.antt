@@ -3,12 +3,13 @@ use Rattle.std.specs.Prelude.{◌↔◌, IfOk, IfSome, IsNone, IsSome}
 use Rattle.toml.specs.Parse.{parse_document}
 use Rattle.graph_file.specs.Refusals.{told}
 use Rattle.graph_file.specs.File.{Content, file_of, seen}
-use Rattle.graph_file.specs.Opening.{opened, validated}
-use Rattle.graph_file.specs.Accepted.{IsAccepted, IsWhy}
-use Rattle.graph_file.specs.declared.accepted.Depth.{Depth}
-use Rattle.graph_file.specs.declared.accepted.Depth.TheVariants.{Graph, Plant}
-use Rattle.graph_file.proofs.Refusing.{refused_first, refused_behind, kept, is_utf8, told_first, told_next, because, encoded}
-use Rattle.graph_file.proofs.accepted.fault_of.Goals as goal
+use Rattle.file_plants.specs.Opening.{opened}
+use Rattle.graph_file.specs.Validity.{validated}
+use Rattle.file_plants.specs.Accepted.{IsAccepted, IsWhy}
+use Rattle.file_plants.specs.declared.accepted.Depth.{Depth}
+use Rattle.file_plants.specs.declared.accepted.Depth.TheVariants.{Graph, Plant}
+use Rattle.file_plants.proofs.Refusing.{refused_first, refused_behind, kept, is_utf8, told_first, told_next, because, encoded}
+use Rattle.file_plants.proofs.accepted.fault_of.Goals as goal
 
 pub returns-in-Err-clause-accepted : goal.returns-in-Err-clause-accepted
 returns-in-Err-clause-accepted c =

@@ -1,7 +1,7 @@
 use Rattle.std.proofs.Common.{◌≡◌, ◌++◌, drop, map, length, vec_len, vec_capacity, ◌≤◌}
 use Rattle.plant_storage.specs.Stores as stores
-use Rattle.graph_file.specs.Opening.{mark_of}
-use Rattle.graph_file.proofs.opening.marks_of.Given as goal
+use Rattle.file_plants.specs.Opening.{mark_of}
+use Rattle.file_plants.proofs.opening.marks_of.Given as goal
 
 abbrev pub invariant-loop-mark : goal.invariant-loop-mark
 invariant-loop-mark l =
