@@ -8,8 +8,8 @@ use Rattle.stream_model.specs.Network.{node_at}
 use Rattle.flowgraph.specs.Flowgraph.{Flowgraph, net_of}
 use Rattle.kinds.specs.Kind.{meaning_of}
 use Rattle.kinds.specs.declared.kind.Kind.{Kind}
-use Rattle.threads.specs.Desk.{DeskState, IsLogged}
-use Rattle.threads.specs.History.{Asked, Asks, Noted}
+use Rattle.call_history.specs.Desk.{DeskState, IsLogged}
+use Rattle.call_history.specs.History.{Asked, Asks, Noted}
 use Rattle.script_text.specs.Grammar.{Command, Feed, Close, Set, Claim, Commit, Abandon, Step, Read as ReadAt, Why, Quiet, Settle, Parsed, Nothing, Bad, Says}
 use Rattle.flow_runs.specs.AtDesk.{AtDesk, Follows, Request, Refuses, Makes, feed_request, found, set_request, live_desk, with_log}
 use Rattle.flow_core.specs.Script.{Replies, Ends, Breaks, Finishes, script_after}

@@ -14,8 +14,9 @@ use Rattle.graph_file.specs.Blocks.{drafted}
 use Rattle.file_plants.specs.Opening.{Opened, opened_of}
 use Rattle.flowgraph.specs.Agreeing.{graphs_agree}
 use Rattle.threads.specs.Outcomes.{HasReturned, handed_of}
-use Rattle.threads.specs.History.{Noted, IsRunOf}
-use Rattle.threads.specs.Live.{HasReached, LiveRunEndsIn, opening_of}
+use Rattle.call_history.specs.History.{Noted, IsRunOf}
+use Rattle.call_history.specs.Reached.{HasReached, opening_of}
+use Rattle.threads.specs.Live.{LiveRunEndsIn}
 use Rattle.threads.specs.declared.outcome.Outcome.{Outcome}
 use Rattle.threads.specs.declared.outcome.Outcome.TheVariants as outcome
 use Rattle.plant.specs.Handed.{OpeningState}

@@ -13,8 +13,8 @@ use Rattle.items.specs.declared.stream_items.Items.{Items}
 use Rattle.plant_faults.specs.declared.fault.PlantFault.{PlantFault}
 use Rattle.plant_faults.specs.declared.fault.PlantFault.TheVariants as fault
 use Rattle.plant.specs.Feeding.{are_items, given_type}
-use Rattle.threads.specs.History.{Asks, Noted}
-use Rattle.threads.specs.Desk.{DeskState, IsLogged, opened_at}
+use Rattle.call_history.specs.History.{Asks, Noted}
+use Rattle.call_history.specs.Desk.{DeskState, IsLogged, opened_at}
 use Rattle.script_text.specs.Grammar.{Command, Feed, Close, Set, Claim, Commit, Abandon, Step, Read, Why, Quiet, Settle}
 use Rattle.flow_core.specs.Session.{value_for, is_fit, reply_line, no_memory}
 

@@ -10,8 +10,8 @@ use Rattle.plant.specs.Plant.{PlantState}
 use Rattle.graph_file.specs.Refusals.{Refusal, IsRefused}
 use Rattle.graph_file.specs.Blocks.{drafted}
 use Rattle.file_plants.specs.Opening.{Opened, opened_of}
-use Rattle.threads.specs.History.{Noted, AreOwn, IsRunOf}
-use Rattle.threads.specs.Live.{AreLogs}
+use Rattle.call_history.specs.History.{Noted, AreOwn, IsRunOf}
+use Rattle.call_history.specs.Logs.{AreLogs}
 use Rattle.byte_io.specs.Ends.{AppendsBeginning}
 use Rattle.closing.specs.Closing.{closed}
 use Rattle.flow_runs.specs.AtDesk.{AtDesk, live_desk, with_log}

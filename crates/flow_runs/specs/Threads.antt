@@ -3,8 +3,9 @@ use Rattle.std.specs.Prelude.{⊤, ◌≡◌, List, [], ◌∷◌, Bool, Result,
 use Rattle.stream_model.specs.Meaning.{Meaning}
 use Rattle.plant.specs.Handed.{OpeningState}
 use Rattle.plant.specs.Plant.{PlantState}
-use Rattle.threads.specs.History.{Noted}
-use Rattle.threads.specs.Live.{AreLogs, HasReached}
+use Rattle.call_history.specs.History.{Noted}
+use Rattle.call_history.specs.Logs.{AreLogs}
+use Rattle.call_history.specs.Reached.{HasReached}
 use Rattle.flow_core.specs.declared.fault.Fault.TheVariants.{File, Script}
 use Rattle.flow_core.specs.declared.script.ScriptFault.{ScriptFault}
 use Rattle.flow_runs.specs.declared.fault.ServeFault.{ServeFault}

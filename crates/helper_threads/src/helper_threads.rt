@@ -3,6 +3,8 @@
 use crate::worth::{Habit, Rounds, pays};
 use crossbeam_channel::{Receiver, Sender, bounded};
 use flowgraph::{Block, BlockId, Valid};
+use scheduling::policy::{LOOKS, processors};
+use scheduling::{Turns, share_of};
 use std::alloc::{AllocError, Global};
 use std::hint::spin_loop;
 use std::sync::Wait;
@@ -10,8 +12,6 @@ use std::thread::{JoinHandle, Threads};
 use std::time::{Clock, Duration, Instant};
 use std::{fmt, thread};
 use streaming::{Headway, Helpers, Job, Step, Watch, Worked};
-use threads::policy::{LOOKS, processors};
-use threads::{Turns, share_of};
 
 // The most firings that are given away at once, if buffers hold so many.
 const MOST_FIRINGS: u32 = 65_536;

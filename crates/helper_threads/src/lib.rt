@@ -8,7 +8,7 @@
 //!
 //! The plant stays with the caller. The caller claims firings of a dear block, sends the job, and commits the work that
 //! comes back. So no contract mentions these threads: a plant takes back only the work of a claim in flight, whoever
-//! brings it. `threads::policy` has the whole policy of threads.
+//! brings it. `scheduling::policy` has the whole policy of threads.
 #![tactic(auto)]
 
 mod helper_threads;

@@ -1,6 +1,6 @@
-//! What `threads::policy` leaves to helpers: which blocks are dear, and whether it pays to call helpers for them.
+//! What `scheduling::policy` leaves to helpers: which blocks are dear, and whether it pays to call helpers for them.
 
-use threads::policy::{JOB_COST, Pace, is_timed, is_worth};
+use scheduling::policy::{JOB_COST, Pace, is_timed, is_worth};
 
 /// So many nanoseconds a block has nothing to do between two of its jobs, while one is on its way back and the next on
 /// its way there.

@@ -1,13 +1,13 @@
 //! A gate that measures.
 
 use crate::figures::{Figures, Stats, Waited};
+use firing_rules::Need;
 use flowgraph::{Block, BlockId, Valid};
-use plant::Need;
+use scheduling::Gate;
 use std::alloc::{AllocError, Global};
 use std::io;
 use std::sync::atomic::{AtomicU64, Ordering};
 use std::time::{Clock, CpuClock, Duration};
-use threads::Gate;
 
 /// The gate that measures the turns and the waits of each block. A block's time at work is the processor time that its
 /// threads take in its turns, so other work on the machine makes no block slow. The gate takes its memory before the

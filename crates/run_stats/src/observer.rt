@@ -2,10 +2,10 @@
 
 use crate::meter::Meter;
 use crate::tracer::Tracer;
+use firing_rules::Need;
 use flowgraph::BlockId;
-use plant::Need;
+use scheduling::Gate;
 use std::time::{Clock, CpuClock};
-use threads::Gate;
 
 /// The gate that is a meter, a tracer, or both.
 #[derive(Drop)]

@@ -4,9 +4,9 @@
 ghost use Rattle.std.specs.Prelude.{◌<◌, length};
 
 use crate::tracer::{Deed, Event, Tracer};
+use firing_rules::Need;
 use flowgraph::{Block, BlockId, Valid};
 use itoa::Buffer;
-use plant::Need;
 use std::io;
 use std::io::Write;
 use std::time::Clock;

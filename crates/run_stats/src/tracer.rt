@@ -1,11 +1,11 @@
 //! A gate that keeps what happens in a run.
 
+use firing_rules::Need;
 use flowgraph::{Block, BlockId, Valid};
-use plant::Need;
+use scheduling::Gate;
 use std::alloc::{AllocError, Global};
 use std::sync::atomic::{AtomicU64, Ordering};
 use std::time::Clock;
-use threads::Gate;
 
 // The end of a wait that no turn has ended.
 const NEVER: u64 = u64::MAX;

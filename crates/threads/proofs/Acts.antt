@@ -2,7 +2,7 @@
 use Rattle.std.proofs.Common.{◌≡◌, ℕ, Bool, refl}
 use Rattle.std.specs.Prelude.{suc, Option, None, Some}
 use Rattle.stream_model.specs.Meaning.{Meaning}
-use Rattle.threads.specs.declared.engine.Engine.{Engine}
+use Rattle.call_history.specs.declared.engine.Engine.{Engine}
 use Rattle.threads.specs.declared.errands.Errand.{Errand}
 use Rattle.threads.specs.Errands.{ActsLead, HasStep}
 

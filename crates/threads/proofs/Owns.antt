@@ -5,12 +5,12 @@ use Rattle.stream_model.specs.Machine as machine
 use Rattle.stream_model.specs.Machine.{Job, job_of}
 use Rattle.flowgraph.specs.Flowgraph.{net_of}
 use Rattle.machine_laws.proofs.Claiming.{claims}
-use Rattle.threads.specs.declared.engine.Engine.{Engine}
-use Rattle.threads.specs.declared.engine.Engine.TheVariants as engine
+use Rattle.call_history.specs.declared.engine.Engine.{Engine}
+use Rattle.call_history.specs.declared.engine.Engine.TheVariants as engine
 use Rattle.threads.specs.declared.locked.Locked.{Locked}
 use Rattle.threads.specs.declared.locked.Next.{Next}
 use Rattle.threads.specs.declared.locked.Next.TheVariants as next
-use Rattle.threads.specs.Engine.{HasClaimed}
+use Rattle.call_history.specs.Engine.{HasClaimed}
 use Rattle.threads.specs.Locked.{HasNext, IsOwn}
 
 own_job : {B P : Type 0} (meaning : B → Meaning) (b most : ℕ) (old new : Engine B P) (job : Job) → HasClaimed meaning b most old new (Some (machine.Claimed job)) → job.block ≡ b

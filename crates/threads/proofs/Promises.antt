@@ -3,8 +3,8 @@ use Rattle.std.proofs.Common.{◌≡◌, ◌<◌, ℕ, List, [], ◌∷◌, leng
 use Rattle.std.specs.declared.thread.PromisedHandle.{PromisedHandle}
 use Rattle.threads.specs.declared.desks.DeskPromise.{DeskPromise}
 use Rattle.flowgraph.specs.Flowgraph.{Flowgraph}
-use Rattle.threads.specs.Desk.{DeskState, opened_at}
-use Rattle.threads.specs.History.{Noted}
+use Rattle.call_history.specs.Desk.{DeskState, opened_at}
+use Rattle.call_history.specs.History.{Noted}
 use Rattle.threads.specs.Live.{HaveReturned}
 use Rattle.threads.specs.Desks.{AreSeated, HaveKept, HasKept, IsAt}
 

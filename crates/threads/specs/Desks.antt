@@ -4,8 +4,8 @@ use Rattle.std.specs.declared.thread.PromisedHandle.{PromisedHandle}
 use Rattle.flowgraph.specs.Flowgraph.{Flowgraph}
 use Rattle.threads.specs.declared.desks.DeskPromise.{DeskPromise}
 use Rattle.threads.specs.declared.desks.Room.{Room}
-use Rattle.threads.specs.Desk.{DeskState, opened_at}
-use Rattle.threads.specs.History.{Noted}
+use Rattle.call_history.specs.Desk.{DeskState, opened_at}
+use Rattle.call_history.specs.History.{Noted}
 
 -- nothing was put into it yet
 pub record IsEmpty {B C P : Type 0} (room : Room B C P) : Type 0 where

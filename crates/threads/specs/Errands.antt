@@ -9,11 +9,11 @@ use Rattle.plant.specs.declared.answers.Claim.{Claim}
 use Rattle.plant.specs.declared.answers.Claim.TheVariants as claim
 use Rattle.plant.specs.declared.answers.Step.{Step}
 use Rattle.plant_faults.specs.declared.fault.PlantFault.{PlantFault}
-use Rattle.threads.specs.declared.engine.Engine.{Engine}
+use Rattle.call_history.specs.declared.engine.Engine.{Engine}
 use Rattle.threads.specs.declared.errands.Errand.{Errand}
 use Rattle.threads.specs.declared.errands.Errand.TheVariants as errand
 use Rattle.threads.specs.declared.locked.Locked.{Locked}
-use Rattle.threads.specs.Engine.{plant_in, HasClaimed, HasStepped}
+use Rattle.call_history.specs.Engine.{plant_in, HasClaimed, HasStepped}
 use Rattle.threads.specs.Locked.{HasBrought}
 
 -- a block was stepped as by the machine, whatever the answer was

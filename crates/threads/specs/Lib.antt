@@ -1,13 +1,8 @@
-pub mod Desk
 pub mod Desks
-pub mod Engine
 pub mod Errands
 pub mod Fault
 pub mod Locked
-pub mod History
 pub mod Live
 pub mod Outcomes
-pub mod Recorded
-pub mod Request
 pub mod Running
 pub mod Worker

@@ -1,37 +1,20 @@
 -- How a run ends that callers made calls of.
-use Rattle.std.specs.Prelude.{⊤, ℕ, ◌≡◌, ◌<◌, ◌==◌, List, length, filter, get_or, [], Bool, true, false}
+use Rattle.std.specs.Prelude.{⊤, ℕ, ◌≡◌, ◌<◌, List, length, get_or, [], Bool, true, false}
 use Rattle.stream_model.specs.Meaning.{Meaning}
-use Rattle.stream_model.specs.Machine.{is_idle, is_all_done, is_quiet}
-use Rattle.graph_model.specs.Rates.{Balanced, balance_of, capacities_of}
+use Rattle.stream_model.specs.Machine.{is_all_done, is_quiet}
+use Rattle.graph_model.specs.Rates.{Balanced, balance_of}
 use Rattle.machine_laws.specs.Stalls.{AreClosed}
-use Rattle.flowgraph.specs.Agreeing.{graphs_agree}
 use Rattle.flowgraph.specs.Flowgraph.{Flowgraph, net_of}
 use Rattle.plant.specs.Handed.{OpeningState}
 use Rattle.plant.specs.Plant.{PlantState}
-use Rattle.threads.specs.declared.entry.CallerId.{CallerId}
-use Rattle.threads.specs.declared.entry.CallerId.TheVariants as caller
 use Rattle.threads.specs.declared.outcome.Outcome.{Outcome}
 use Rattle.threads.specs.declared.outcome.Outcome.TheVariants.{Done, Stopped, Stalled}
 use Rattle.threads.specs.declared.fault.RunFault.{RunFault}
 use Rattle.threads.specs.declared.fault.RunFault.TheVariants.{Memory, Thread, Foreign}
-use Rattle.threads.specs.Desk.{DeskState, opened_at}
-use Rattle.threads.specs.History.{Noted, AreOwn, IsRunOf}
+use Rattle.call_history.specs.Desk.{DeskState, opened_at}
+use Rattle.call_history.specs.History.{Noted}
+use Rattle.call_history.specs.Reached.{HasReached}
 use Rattle.threads.specs.Outcomes.{IsDone}
-
--- where a plant stands before the run
-abbrev pub opening_of : {B : Type 0} → PlantState B → OpeningState B
-opening_of p = record { graph = p.graph; state = p.state }
-
--- a plant came where a history leads from the opening: an equal graph, buffers as large as its rates ask, and no claim
--- in flight. Each call of the history is one that its caller may make
-pub record HasReached {B : Type 0} (meaning : B → Meaning) (eq : B → B → Bool) (o : OpeningState B)
-    (history : List Noted) (p : PlantState B) : Type 0 where
-  pub graph : graphs_agree eq p.graph o.graph ≡ true
-  pub net : net_of meaning p.graph ≡ net_of meaning o.graph
-  pub capacities : p.capacities ≡ capacities_of (net_of meaning p.graph) (balance_of (net_of meaning p.graph))
-  pub run : IsRunOf (net_of meaning p.graph) p.capacities o.state history p.state
-  pub own : AreOwn history
-  pub idle : is_idle p.state ≡ true
 
 -- some block is not done, and none can act. So the rates have no balance, or a tape is open
 pub record IsStuck {B : Type 0} (meaning : B → Meaning) (p : PlantState B) : Type 0 where
@@ -52,18 +35,6 @@ abbrev pub GivesBackLive : {B P : Type 0} → (B → Meaning) → (B → B → B
 GivesBackLive meaning eq o (Memory p) = (history : List Noted) × HasReached meaning eq o history p
 GivesBackLive meaning eq o (Thread p) = (history : List Noted) × HasReached meaning eq o history p
 GivesBackLive meaning eq o Foreign = ⊤
-
--- what was recorded of the caller at a desk
-abbrev pub is_at : ℕ → CallerId → Bool
-is_at n (caller.Desk m) = m == n
-is_at n (caller.Worker b) = false
-
-abbrev pub noted_at : ℕ → List Noted → List Noted
-noted_at n = filter (λ e. is_at n e.caller)
-
--- each desk's log is what was recorded of it, in that order, and nothing was recorded of a desk that has no log
-abbrev pub AreLogs : List (List Noted) → List Noted → Type 0
-AreLogs logs history = (n : ℕ) → get_or logs n [] ≡ noted_at n history
 
 -- each caller that came back, with its log, is what a run at a desk of its own may make of the caller that was handed
 -- in at its place

@@ -6,11 +6,11 @@ use Rattle.claimed_work.specs.Jobs.{WorkedState}
 use Rattle.plant.specs.Answers.{refusal_of, waiting_reply}
 use Rattle.plant.specs.declared.answers.Did.{Did}
 use Rattle.plant_faults.specs.declared.fault.PlantFault.{PlantFault}
-use Rattle.threads.specs.declared.engine.Engine.{Engine}
+use Rattle.call_history.specs.declared.engine.Engine.{Engine}
 use Rattle.threads.specs.declared.locked.Locked.{Locked}
 use Rattle.threads.specs.declared.locked.Next.{Next}
 use Rattle.threads.specs.declared.locked.Next.TheVariants as next
-use Rattle.threads.specs.Engine.{plant_in, HasClaimed, HasCommitted}
+use Rattle.call_history.specs.Engine.{plant_in, HasClaimed, HasCommitted}
 
 -- what a worker brought was committed
 abbrev pub HasBrought : {B P : Type 0} → (B → Meaning) → (B → B → Bool) → Option (WorkedState B) → Engine B P

@@ -7,13 +7,14 @@ ghost use Rattle.flowgraph.specs.Flowgraph.{net_of};
 ghost use Rattle.plant.specs.Answers.{Answered, step_reply};
 ghost use Rattle.threads.specs.Outcomes.{handed_of};
 
-use crate::gate::Gate;
-use crate::number_set::NumberSet;
-use crate::policy::{is_long, is_worth};
-use crate::rounds::{Found, Rounds, Timed};
-use crate::stopwatch::{Pauses, nanos_between, nanos_since, now};
+use crate::pauses::Pauses;
 use flowgraph::{Block, BlockId};
 use plant::{Claim, Plant, PlantFault, Step, Watch};
+use scheduling::Gate;
+use scheduling::number_set::NumberSet;
+use scheduling::policy::{is_long, is_worth};
+use scheduling::rounds::{Found, Rounds, Timed};
+use scheduling::stopwatch::{nanos_between, nanos_since, now};
 use std::alloc::Global;
 use std::time::Clock;
 

@@ -7,17 +7,16 @@ ghost use Rattle.items.specs.Items.{type_of, numbers_of};
 ghost use Rattle.settings.specs.Values.{value_of};
 ghost use Rattle.plant_storage.specs.Stores.{mark_of};
 ghost use Rattle.plant.specs.Answers.{piece_reply, reply_of};
-ghost use Rattle.threads.specs.History.{Asks, Noted, noted_by};
-ghost use Rattle.threads.specs.Desk.{DeskState, IsLogged};
-ghost use Rattle.threads.specs.Request.{IsReady, asked_of, fits, replied, response_reply};
+ghost use Rattle.call_history.specs.History.{Asks, Noted, noted_by};
+ghost use Rattle.call_history.specs.Desk.{DeskState, IsLogged};
+ghost use Rattle.call_history.specs.Request.{IsReady, asked_of, fits, replied, response_reply};
 
-use crate::entry::{CallerId, Entry, Feed, Setting, in_arc};
-use crate::gate::Gate;
-use crate::request::{Request, Response};
 use crate::shared::Shared;
+use call_history::{CallerId, Entry, Feed, Request, Response, Setting, in_arc};
 use flowgraph::{Block, BlockId, Valid};
 use items::{Items, Mark};
 use plant::{Closed, Fed, Piece, PlantFault, Taken};
+use scheduling::Gate;
 use settings::Value;
 use std::alloc::{AllocError, Global};
 use std::fmt;
@@ -55,8 +54,8 @@ impl<'a, B: Block, G: Gate + Drop> fmt::Debug for Desk<'a, B, G> {
 
 impl<'a, B: Block, G: Gate + Drop> Model for Desk<'a, B, G> {
     ghost use Rattle.std.specs.Prelude.{map};
-    ghost use Rattle.threads.specs.History.{noted_by};
-    ghost use Rattle.threads.specs.Desk.{DeskState};
+    ghost use Rattle.call_history.specs.History.{noted_by};
+    ghost use Rattle.call_history.specs.Desk.{DeskState};
 
     ghost Value = { DeskState B };
 

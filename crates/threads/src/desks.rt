@@ -1,15 +1,15 @@
 //! The threads of callers, each at a desk of its own.
 
 ghost use Rattle.std.specs.Prelude.{◌≡◌, ◌≤◌, map, vec_len, IfOk, IfSome};
-ghost use Rattle.threads.specs.Desk.{opened_at};
+ghost use Rattle.call_history.specs.Desk.{opened_at};
 ghost use Rattle.threads.specs.Desks.{AreSeated, HaveKept, IsEmpty};
-ghost use Rattle.threads.specs.History.{noted_by};
+ghost use Rattle.call_history.specs.History.{noted_by};
 
 use crate::desk::{Caller, Desk};
-use crate::entry::Entry;
-use crate::gate::Gate;
 use crate::shared::Shared;
+use call_history::Entry;
 use flowgraph::{Block, Valid};
+use scheduling::Gate;
 use std::alloc::{AllocError, Global};
 use std::snapshot::Snapshot;
 use std::sync::Wait;

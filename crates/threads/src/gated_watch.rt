@@ -1,8 +1,8 @@
 //! Tells a gate of a run on one thread.
 
-use crate::gate::Gate;
 use flowgraph::BlockId;
 use plant::{Headway, Step, Watch};
+use scheduling::Gate;
 use std::alloc::Global;
 use std::sync::Arc;
 use std::time::Duration;

@@ -11,9 +11,9 @@
 //!
 //! - [`launch_with`], [`run_with`] and [`live_with`] take [`RunOptions`]: whether each block has a thread, how long a
 //!   turn is, and a gate. [`launch`], [`run`] and [`live`] have a worker for each block.
-//! - In `live`, callers at desks make calls while the blocks work. It returns the history of all calls.
-//! - With a thread for each block, `waiting` decides whose progress wakes which worker. A run in as many threads as the
-//!   work is worth goes by `policy`, a page to read; `pool` decides whom it calls.
+//! - In `live`, callers at desks make calls while the blocks work. It returns the history of all calls, which
+//!   `call_history` records.
+//! - `scheduling` decides who acts: whom the progress of a block wakes, and what is worth a thread.
 //!
 //! One lock guards the plant. Each call of it there is one call of `Locked`, whose contract is exact. At each turn a
 //! worker takes the lock once: it commits what it did and claims anew. Then it works without the lock. Of what a lock
@@ -24,50 +24,30 @@
 mod adaptive;
 mod alone;
 mod calling;
-mod crew;
 pub mod desk;
 mod desks;
-mod engine;
-pub mod entry;
 mod errands;
 pub mod fault;
-pub mod gate;
 pub mod gated_watch;
-mod habit;
 mod launching;
-mod lent_calls;
 mod live_crew;
 mod live_rooms;
 mod locked;
 mod locked_calls;
-mod logs;
-mod number_set;
 pub mod outcome;
-pub mod policy;
-mod pool;
+mod pauses;
 mod pool_threads;
 mod prepared;
-mod recorded;
-mod request;
-mod rounds;
-pub mod run_options;
 pub mod running;
 mod shared;
-mod stopwatch;
-pub mod turns;
-mod waiting;
-mod woken;
 mod worker;
 
+pub use call_history::{Answer, Call, CallerId, Entry, Feed, Setting};
 pub use calling::{Finished, live, live_with};
 pub use desk::{Caller, Desk};
-pub use entry::{Answer, Call, CallerId, Entry, Feed, Setting};
 pub use fault::{RunError, RunFault};
-pub use gate::{Gate, Open};
 pub use gated_watch::GatedWatch;
 pub use launching::{launch, launch_with};
 pub use outcome::Outcome;
-pub use run_options::{RunOptions, Threading};
 pub use running::{Running, run, run_with};
-pub use turns::Turns;
-pub use waiting::share_of;
+pub use scheduling::{Gate, Open, RunOptions, Threading, Turns};

@@ -2,18 +2,17 @@
 
 ghost use Rattle.std.specs.Prelude.{◌≡◌, ◌≤◌, map, IfSome, vec_len};
 ghost use Rattle.threads.specs.Desks.{IsEmpty};
-ghost use Rattle.threads.specs.History.{noted_by};
+ghost use Rattle.call_history.specs.History.{noted_by};
 ghost use Rattle.threads.specs.Live.{HaveReturned};
 
 use crate::desk::Caller;
 use crate::desks::{Returned, Room, return_callers, seated};
-use crate::gate::Gate;
 use crate::pool_threads::lead_in_scope;
-use crate::run_options::Threading;
 use crate::shared::Shared;
 use crate::worker::work;
 use flowgraph::{Block, BlockId, Valid};
 use plant::Watch;
+use scheduling::{Gate, Threading};
 use std::alloc::Global;
 use std::sync::Wait;
 use std::thread::{Scope, Threads};

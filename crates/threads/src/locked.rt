@@ -4,15 +4,15 @@ ghost use Rattle.std.specs.Prelude.{◌≡◌, ◌≤◌, ◌-◌, true, false, 
 ghost use Rattle.threads.specs.declared.locked.Next.TheVariants as next;
 ghost use Rattle.threads.specs.Locked.{HasBrought, HasNext, HasTurned, IsOwn};
 
-use crate::engine::Engine;
-use crate::pool::Pool;
-use crate::turns::Turns;
-use crate::waiting::{Waiting, share_of};
-use crate::woken::Woken;
 use crate::worker::Worker;
+use call_history::Engine;
 use claimed_work::{Job, Worked};
 use flowgraph::{Block, BlockId};
 use plant::{Claim, Need};
+use scheduling::pool::Pool;
+use scheduling::waiting::Waiting;
+use scheduling::woken::Woken;
+use scheduling::{Turns, share_of};
 use std::alloc::Global;
 
 /// What a worker has to do next.

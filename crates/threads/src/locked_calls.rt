@@ -1,14 +1,13 @@
 //! The calls that callers make under the lock.
 
 ghost use Rattle.std.specs.Prelude.{◌≡◌, true, IfOk};
-ghost use Rattle.threads.specs.Engine.{HasCalled};
-ghost use Rattle.threads.specs.Request.{AreFor, IsReady, asked_of, replied, response_reply};
+ghost use Rattle.call_history.specs.Engine.{HasCalled};
+ghost use Rattle.call_history.specs.Request.{AreFor, IsReady, asked_of, replied, response_reply};
 
-use crate::entry::Answer;
 use crate::locked::Locked;
-use crate::request::{Request, Response};
-use crate::woken::Woken;
+use call_history::{Answer, Request, Response};
 use flowgraph::Block;
+use scheduling::woken::Woken;
 use std::alloc::{AllocError, Global};
 
 impl<B: Block> Locked<B> {

@@ -1,14 +1,15 @@
 //! The threads of a pool: the first, which starts the others, and these.
 
 use crate::errands::{Brought, Errand};
-use crate::gate::Gate;
-use crate::policy::{YIELDS, processors};
+use crate::pauses::Pauses;
 use crate::shared::Shared;
-use crate::stopwatch::{Pauses, nanos_since, now};
-use crate::woken::Woken;
 use claimed_work::Job;
 use flowgraph::Block;
 use plant::Watch;
+use scheduling::Gate;
+use scheduling::policy::{YIELDS, processors};
+use scheduling::stopwatch::{nanos_since, now};
+use scheduling::woken::Woken;
 use std::alloc::Global;
 use std::hint::spin_loop;
 use std::sync::{Arc, Wait};

@@ -4,21 +4,21 @@ ghost use Rattle.std.specs.Prelude.{◌≡◌, true, false, IfOk, IfErr, IfSome}
 ghost use Rattle.std.specs.Arc.{arc_value};
 ghost use Rattle.std.specs.Option.{option_map};
 ghost use Rattle.stream_model.specs.Machine.{is_idle};
-ghost use Rattle.threads.specs.Live.{GivesBackLive, opening_of};
+ghost use Rattle.threads.specs.Live.{GivesBackLive};
+ghost use Rattle.call_history.specs.Reached.{opening_of};
 ghost use Rattle.threads.specs.Outcomes.{HasReturned, GivesBack, IsSo, handed_of};
 
-use crate::crew::Crew;
-use crate::engine::Engine;
 use crate::fault::RunFault;
-use crate::gate::Gate;
 use crate::locked::Locked;
-use crate::pool::Pool;
 use crate::running::{Running, came_back};
 use crate::shared::Shared;
-use crate::turns::Turns;
-use crate::waiting::Waiting;
+use call_history::Engine;
 use flowgraph::Block;
 use plant::{Handed, Plant};
+use scheduling::crew::Crew;
+use scheduling::pool::Pool;
+use scheduling::waiting::Waiting;
+use scheduling::{Gate, Turns};
 use std::alloc::{AllocError, AllocFailed, Global};
 use std::sync::Arc;
 use std::thread::{JoinHandle, Parker};

@@ -2,21 +2,20 @@
 
 ghost use Rattle.std.specs.Prelude.{◌≡◌, true, false, IfOk, IfErr};
 ghost use Rattle.stream_model.specs.Machine.{is_idle};
-ghost use Rattle.threads.specs.declared.run_options.Threading.TheVariants.{Adaptive};
+ghost use Rattle.scheduling.specs.declared.run_options.Threading.TheVariants.{Adaptive};
 ghost use Rattle.threads.specs.Outcomes.{RunEndsIn, GivesBack, HasReturned, IsSo, handed_of};
 ghost use Rattle.threads.specs.Running.{RunState};
 
 use crate::adaptive::run_adaptive;
-use crate::engine::Engine;
 use crate::fault::RunFault;
-use crate::gate::Gate;
 use crate::launching::launch_with;
 use crate::locked::Locked;
 use crate::outcome::Outcome;
-use crate::run_options::{RunOptions, Threading};
 use crate::shared::Shared;
+use call_history::Engine;
 use flowgraph::Block;
 use plant::{Handed, Headway, Plant, Unwatched, Watch};
+use scheduling::{Gate, RunOptions, Threading};
 use std::alloc::Global;
 use std::fmt;
 use std::marker::Model;

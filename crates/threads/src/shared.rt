@@ -3,20 +3,18 @@
 
 ghost use Rattle.std.specs.Prelude.{◌≡◌, ◌≤◌, None, IfOk};
 ghost use Rattle.threads.specs.Locked.{IsOwn};
-ghost use Rattle.threads.specs.Request.{AreFor, IsReady};
+ghost use Rattle.call_history.specs.Request.{AreFor, IsReady};
 
-use crate::entry::Answer;
 use crate::errands::{Brought, Errand, LockQueue};
-use crate::gate::Gate;
 use crate::locked::{Locked, Next};
-use crate::number_set::BITS;
-use crate::policy::LOOKS;
-use crate::request::{Request, Response};
-use crate::turns::Turns;
-use crate::woken::Woken;
 use crate::worker::Worker;
+use call_history::{Answer, Request, Response};
 use flowgraph::{Block, BlockId};
 use plant::{Headway, Watch};
+use scheduling::number_set::BITS;
+use scheduling::policy::LOOKS;
+use scheduling::woken::Woken;
+use scheduling::{Gate, Turns};
 use std::alloc::{AllocError, Global};
 use std::hint::spin_loop;
 use std::sync::atomic::Ordering;

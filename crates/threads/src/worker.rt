@@ -3,12 +3,12 @@
 ghost use Rattle.std.specs.Prelude.{◌≡◌, ◌≤◌, None};
 ghost use Rattle.threads.specs.Worker.{BringsJob};
 
-use crate::gate::Gate;
 use crate::locked::Next;
 use crate::shared::Shared;
-use crate::woken::Woken;
 use claimed_work::{Job, Worked};
 use flowgraph::{Block, BlockId};
+use scheduling::Gate;
+use scheduling::woken::Woken;
 use std::alloc::Global;
 use std::sync::Wait;
 

@@ -14,9 +14,11 @@ ghost use Rattle.plant.specs.Answers.{Answered, AnsweredAlways, reply_of};
 ghost use Rattle.settings.specs.Values.{value_of};
 ghost use Rattle.plant.specs.Opening.{opening_plant};
 ghost use Rattle.plant.specs.Plant.{PlantState};
-ghost use Rattle.threads.specs.declared.run_options.Threading.TheVariants.{Adaptive};
-ghost use Rattle.threads.specs.History.{noted_by};
-ghost use Rattle.threads.specs.Live.{AreLogs, HaveReturned, LiveRunEndsIn, GivesBackLive, opening_of};
+ghost use Rattle.scheduling.specs.declared.run_options.Threading.TheVariants.{Adaptive};
+ghost use Rattle.call_history.specs.History.{noted_by};
+ghost use Rattle.call_history.specs.Logs.{AreLogs};
+ghost use Rattle.threads.specs.Live.{HaveReturned, LiveRunEndsIn, GivesBackLive};
+ghost use Rattle.call_history.specs.Reached.{opening_of};
 ghost use Rattle.threads.specs.Outcomes.{RunEndsIn, GivesBack, IsSo, handed_of};
 ghost use Rattle.closing.specs.Closing.{with_all_closed};
 

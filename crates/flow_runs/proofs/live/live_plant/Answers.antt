@@ -2,8 +2,9 @@ use Rattle.std.proofs.Common.{◌≡◌, ◌∙◌, ◌<◌, sym, subst, arith, 
 use Rattle.std.proofs.lemmas.List.{length-map}
 use Rattle.std.proofs.lemmas.Result.{err_from_is_err_and}
 use Rattle.kinds.specs.Kind.{meaning_of}
-use Rattle.threads.specs.History.{Noted, noted_by}
-use Rattle.threads.specs.Live.{AreLogs, opening_of}
+use Rattle.call_history.specs.History.{Noted, noted_by}
+use Rattle.call_history.specs.Logs.{AreLogs}
+use Rattle.call_history.specs.Reached.{opening_of}
 use Rattle.flow_runs.specs.AtDesk.{AtDesk, live_desk}
 use Rattle.flow_runs.specs.Threads.{HasCome}
 use Rattle.flow_core.proofs.Flows.{breaks_first}

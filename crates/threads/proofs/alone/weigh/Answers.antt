@@ -2,7 +2,7 @@ use Rattle.std.proofs.Common.{◌∙◌, ap, sym}
 use Rattle.stream_model.specs.Machine as machine
 use Rattle.plant.specs.Answers.{claim_reply}
 use Rattle.threads.proofs.Keeping.{claim_kept, commit_kept}
-use Rattle.threads.proofs.Weighing.{step_done}
+use Rattle.call_history.proofs.Weighing.{step_done}
 use Rattle.threads.proofs.alone.weigh.Goals as goal
 
 pub returns-in_err-job-clause-handed : goal.returns-in_err-job-clause-handed

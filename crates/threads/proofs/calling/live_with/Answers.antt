@@ -1,6 +1,6 @@
 use Rattle.std.proofs.Common.{rules, ◌≡◌, map, IfSome, subst}
 use Rattle.std.proofs.lemmas.Result.{IfOk-weaker}
-use Rattle.threads.specs.History.{noted_by}
+use Rattle.call_history.specs.History.{noted_by}
 use Rattle.threads.specs.Live.{HaveReturned}
 use Rattle.threads.proofs.calling.live_with.Goals as goal
 

@@ -1,8 +1,8 @@
 use Rattle.std.proofs.Common.{rules, ◌≡◌, ◌+◌, ◌++◌, ◌∷◌, [], ◌<◌, length, map, get_or, vec_len, subst, sym, ap, ◌∙◌, Vec, Global}
 use Rattle.std.proofs.lemmas.List.{length-map}
 use mathlib.Core.List.{map-append}
-use Rattle.threads.specs.declared.entry.Entry.{Entry}
-use Rattle.threads.specs.History.{noted_by}
+use Rattle.call_history.specs.declared.entry.Entry.{Entry}
+use Rattle.call_history.specs.History.{noted_by}
 use Rattle.threads.specs.Desks.{HasKept}
 use Rattle.threads.proofs.Places.{both_more}
 use Rattle.threads.proofs.desks.return_callers.Goals as goal

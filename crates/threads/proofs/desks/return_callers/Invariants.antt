@@ -1,6 +1,6 @@
 use Rattle.std.proofs.Common.{◌≡◌, ◌+◌, ◌<◌, ℕ, [], map, get_or, vec_len}
 use Rattle.std.specs.Vec.Iter.{into_iter_items, into_iter_len}
-use Rattle.threads.specs.History.{noted_by}
+use Rattle.call_history.specs.History.{noted_by}
 use Rattle.threads.specs.Desks.{HasKept}
 use Rattle.threads.proofs.desks.return_callers.Given as goal
 

@@ -1,6 +1,6 @@
 use Rattle.std.proofs.Common.{rules, map}
 use Rattle.std.proofs.lemmas.Option.{IfSome_then}
-use Rattle.threads.specs.History.{noted_by}
+use Rattle.call_history.specs.History.{noted_by}
 use Rattle.threads.proofs.Promises.{have_returned}
 use Rattle.threads.proofs.live_crew.run_all.Goals as goal
 

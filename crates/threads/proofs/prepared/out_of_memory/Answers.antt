@@ -1,6 +1,6 @@
 use Rattle.std.proofs.Common.{[], refl}
 use Rattle.std.proofs.lemmas.List.Elements.{All-nil}
-use Rattle.threads.specs.History.{Noted, MayAsk}
+use Rattle.call_history.specs.History.{Noted, MayAsk}
 use Rattle.threads.proofs.Agreeing.{graph_self}
 use Rattle.threads.proofs.prepared.out_of_memory.Goals as goal
 
