@@ -31,7 +31,7 @@ extern "C" {
  * status  0: done. 3: done, but the run came to rest before all blocks were done. 1: refused. 4: out of memory. (The
  *         exit status of the program `flow`.)
  * number  that of the refusal, as docs/user/REFUSALS.md lists them; 0 with status 0 and 3.
- * output_len  how many bytes the output has. Where the buffer for it has fewer, nothing was written there.
+ * output_len  how many bytes the output has. If the buffer for it has fewer, nothing was written there.
  * error_len   how many bytes the line has that tells the refusal, as `flow: refused 7 Loop x` with a line feed; 0 where
  *             there is none.
  */
@@ -129,14 +129,14 @@ struct magbelu_stream {
 /* end of these lines: numbers */
 
 /*
- * Where a graph file is refused. Lines and columns count from 1, columns and lengths characters.
+ * The place at which a graph file is refused. Lines and columns count from 1, columns and lengths in characters.
  *
  * status   0: the file is not refused. 1: it is. 4: out of memory.
  * number   that of the refusal; 0 with status 0.
- * line     the line; 0 where nothing is refused, or memory ran out for the place.
+ * line     the line; 0 if nothing is refused, or memory ran out for the place.
  * column   the first character of the word that is at fault.
- * length   how many characters it has on that line; 1 where no word stands there.
- * why_len  how many bytes the reason has. It is written where it fits its buffer.
+ * length   how many characters it has on that line; 1 if no word stands there.
+ * why_len  how many bytes the reason has. It is written if it fits its buffer.
  */
 struct magbelu_fault_place {
     uint32_t status;
@@ -212,10 +212,10 @@ struct magbelu_tag {
  * number  that of the refusal; 0 with status 0.
  * role    MAGBELU_WORK, MAGBELU_SOURCE, MAGBELU_SINK of a sink that keeps its items, or MAGBELU_NULL_SINK of one that
  *         drops them.
- * input_type, output_type    MAGBELU_BYTE, MAGBELU_SHORT or MAGBELU_INT. Where there is no port on a side, the type
- *                            says nothing.
+ * input_type, output_type    MAGBELU_BYTE, MAGBELU_SHORT or MAGBELU_INT. On a side without a port the type says
+ *                            nothing.
  * input_count, output_count  how many inputs and outputs are connected. A source has no inputs but its tape.
- * name_len, kind_len         how many bytes its name has, and the name of its kind. Each is written where it fits its
+ * name_len, kind_len         how many bytes its name has, and the name of its kind. Each is written if it fits its
  *                            buffer.
  */
 struct magbelu_listed {
@@ -271,11 +271,11 @@ struct magbelu_block_setting {
 #define MAGBELU_TAPS 2
 
 /*
- * What a firing of a block gives. Where nothing is connected to its outputs, `gives` says nothing.
+ * What a firing of a block gives. If nothing is connected to its outputs, `gives` says nothing.
  *
  * status   0: done. 1: refused. 4: out of memory.
  * number   that of the refusal; 0 with status 0.
- * shift    MAGBELU_ALIKE where all firings take and give as many items. With MAGBELU_SKIPS the first `shifted` firings
+ * shift    MAGBELU_ALIKE if all firings take and give as many items. With MAGBELU_SKIPS the first `shifted` firings
  *          give nothing, and with MAGBELU_DELAYS they take nothing.
  * gives    how many items a firing gives on each output.
  * input_count  how many inputs are connected.
@@ -305,9 +305,9 @@ struct magbelu_block_rates {
  *
  * status   0: done. 1: refused.
  * number   that of the refusal; 0 with status 0.
- * taken    how many items it has taken of its first input; a source, of its tape.
- * given    how many items it has given on each output; a sink, how many it has taken.
- * waiting  how many items have come to its first input, or to its tape, that it has not taken.
+ * taken    how many items it has taken of its first input, or of its tape if it is a source.
+ * given    how many items it has given on each output, or taken if it is a sink.
+ * waiting  how many items have come to its first input or its tape and are not taken yet.
  */
 struct magbelu_levels {
     uint32_t status;
@@ -318,21 +318,21 @@ struct magbelu_levels {
 };
 
 /*
- * What came of a call about slices of time, which are parts of a run that are run for themselves. A slice begins at an
- * iteration: each source gives its `period` items in one. So that it gives what the whole run does, it reads some
- * iterations before its own, and what these give is dropped.
+ * What came of a call about slices of time. A slice is a part of a run that is run for itself. It begins at an
+ * iteration, in which each source gives its `period` items. To give what the whole run gives, it reads some iterations
+ * before its own, and drops what these give.
  *
  * status      0: done. 1: refused. 4: out of memory. The plant stays as it is.
  * number      that of the refusal; 0 with status 0.
  * block       with MAGBELU_NO_SLICES the number of the first block whose items rest on all that it was given, or
- *             MAGBELU_NO_BLOCK where the rates have no balance, or slices would overlap too far. With 0 the number of
- *             the first block whose items rest on how many came before (`head`, `additive_scrambler`): slices of such a
- *             graph are opened by magbelu_stream_open_at, and those of another, which has MAGBELU_NO_BLOCK here, by
+ *             MAGBELU_NO_BLOCK if the rates have no balance, or slices would overlap too far. With 0 the number of the
+ *             first block whose items rest on how many came before (`head`, `additive_scrambler`), or MAGBELU_NO_BLOCK.
+ *             Open slices of a graph with such a block by magbelu_stream_open_at, those of another by
  *             magbelu_stream_open too. Blocks are numbered from 0, in the order of the file.
  * iterations  of magbelu_slices: how many iterations before its own a slice reads. Of magbelu_slice: how many
  *             iterations of each tape the slice leaves out.
  * source_count, sink_count  how many rows there are for sources, and for sinks that keep their items; magbelu_slice has
- *             none for sources. The rows of each table are written where all of them fit, in the order of the blocks.
+ *             none for sources. The rows of each table are written if all of them fit, in the order of the blocks.
  */
 struct magbelu_slicing {
     uint32_t status;
@@ -647,9 +647,9 @@ static inline struct magbelu_answer magbelu_script(const void *file, size_t file
  *    9 | valu = 10
  *      | ^ a block of the kind add_const has no key `valu`; it has: name, kind, type, value, tags, multiple, capacity
  *
- * `name` is what the file is called there; one that is no UTF-8 is shown as `?`. Of a file that is not refused the
- * output is empty, and so it is where memory runs out for these lines. Call it where another call refused the file: it
- * reads the file anew.
+ * `name` is what the file is called there; one that is no UTF-8 is shown as `?`. The output is empty if the file is not
+ * refused, or if memory runs out for these lines. Call it after another call has refused the file: it reads the file
+ * anew.
  */
 static inline struct magbelu_answer magbelu_explain(const void *name, size_t name_len, const void *file,
                                                     size_t file_len, char *output, size_t output_room, char *error,
@@ -665,9 +665,9 @@ static inline struct magbelu_answer magbelu_explain(const void *name, size_t nam
 }
 
 /*
- * Tells where a graph file is refused, for a program that marks the place itself: the word at which, and in `why` the
- * reason that magbelu_explain shows below that word. Of a file that is not refused it tells nothing. Call it where
- * another call refused the file: it reads the file anew.
+ * Tells at which word a graph file is refused, for a program that marks the place itself, and in `why` the reason that
+ * magbelu_explain shows below that word. It tells nothing of a file that is not refused. Call it after another call has
+ * refused the file: it reads the file anew.
  */
 static inline struct magbelu_fault_place magbelu_place(const void *file, size_t file_len, char *why, size_t why_room) {
     uint64_t none = 0;
@@ -740,7 +740,7 @@ static inline int magbelu_has_null_key(const struct magbelu_tag *tags, size_t ta
 
 /*
  * Opens the plant of a graph file, with what the file feeds, for many calls. `plant` must hold none. The answer has no
- * output; a refusal of the file has a line, as of magbelu_run. Where the plant is no longer needed, free it.
+ * output; a refusal of the file has a line, as of magbelu_run. Free the plant when it is no longer needed.
  */
 static inline struct magbelu_answer magbelu_open(struct magbelu_plant *plant, const void *file, size_t file_len,
                                                  char *error, size_t error_room) {
@@ -1153,8 +1153,8 @@ static inline struct magbelu_slicing magbelu_stream_slice(struct magbelu_stream 
 /*
  * Takes at most `max` items away of those that a sink has taken and that were not drained yet: their bytes are in
  * `bytes` then, and in `tags` a line `@OFFSET:KEY=VALUE/SOURCE` for each of their tags, whose offset counts from the
- * first item that the sink ever took. Where one of the two does not fit, nothing is taken away, and the lengths tell
- * how much room is needed.
+ * first item that the sink ever took. If one of the two does not fit, nothing is taken away, and the lengths tell how
+ * much room is needed.
  */
 static inline struct magbelu_piece magbelu_stream_drain(struct magbelu_stream *stream, const void *sink,
                                                         size_t sink_len, uint64_t max, uint32_t big_endian, void *bytes,

@@ -50,7 +50,7 @@ public:
     /* What a script wrote before. */
     const std::string &output() const noexcept { return output_; }
 
-    /* Of a setting that comes too late (27), the first item from which it could be in force. */
+    /* If a setting comes too late (27), the first item from which it could be in force. */
     std::optional<std::uint64_t> floor() const noexcept { return floor_; }
 
 private:
@@ -77,8 +77,8 @@ struct report {
 };
 
 /*
- * Where a graph file is refused: the line and the column of a word, from 1, how many characters it has on that line,
- * and why. A column counts characters.
+ * The place at which a graph file is refused: the line and the column of a word, from 1, how many characters it has on
+ * that line, and why. A column counts characters.
  */
 struct fault_place {
     std::size_t line;
@@ -134,8 +134,8 @@ enum class item_type : std::uint32_t { bytes = MAGBELU_BYTE, shorts = MAGBELU_SH
 /* What a drawing is written in. */
 enum class drawing : std::uint32_t { dot = MAGBELU_DOT, mermaid = MAGBELU_MERMAID };
 
-/* A block of a graph, with how many of its inputs and outputs are connected. Where there is no port on a side, its type
- * says nothing. */
+/* A block of a graph, with how many of its inputs and outputs are connected. On a side without a port its type says
+ * nothing. */
 struct block {
     std::string name;
     std::string kind;
@@ -372,7 +372,7 @@ inline std::string script(std::string_view file, std::string_view lines) {
         .text;
 }
 
-/* Where a graph file's text is refused, or nothing where it is not. */
+/* The place at which a graph file's text is refused, or nothing if it is not. */
 inline std::optional<fault_place> place(std::string_view file) {
     std::string why(256, '\0');
     for (;;) {
