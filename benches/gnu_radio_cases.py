@@ -22,7 +22,8 @@ TOP = Path(__file__).resolve().parent.parent
 RANGES = {"byte": (0, 255), "short": (-32768, 32767), "int": (-(2**31), 2**31 - 1)}
 LETTERS = {"byte": "b", "short": "s", "int": "i"}
 SIZES = {"byte": gr.sizeof_char, "short": gr.sizeof_short, "int": gr.sizeof_int}
-# How many cases run as one graph, so that the program need not start for each: a graph has 256 blocks, and a case up to 7.
+# How many cases run as one graph, so that the program need not start for each. A graph has 256 blocks, and a case has
+# up to 7.
 TOGETHER = 36
 
 
@@ -268,7 +269,8 @@ def viterbi(draw: Draw, item: str) -> Case:
     most = draw.choice([1, 3, 200, min(RANGES[item][1], 2**18)])
     least = max(RANGES[item][0], -draw.choice([0, most]))
     tape = [draw.randint(least, most) for _ in range(steps * outputs * draw.randint(1, 5))]
-    keys = f"symbols = {symbols}\nnext = {following}\noutputs = {outputs}\noutput = {given}\nsteps = {steps}\nstart = {start}\nend = {end}"
+    keys = (f"symbols = {symbols}\nnext = {following}\noutputs = {outputs}\noutput = {given}\n"
+        f"steps = {steps}\nstart = {start}\nend = {end}")
 
     def make() -> Any:
         machine = trellis.fsm(symbols, states, outputs, following, given)
@@ -316,7 +318,8 @@ KINDS: Dict[str, Tuple[Callable[[Draw, str], Case], Tuple[str, ...]]] = {
 def graph_of(case: Case, front: str = "") -> str:
     """The graph file of a case, fed, where all names have this in front of them."""
     item = case.item or "byte"
-    kind = f'[[block]]\nname = "{front}f"\nkind = "{case.kind}"\n' + (f'type = "{case.item}"\n' if case.item else "") + (case.keys + "\n" if case.keys else "")
+    item, keys = f'type = "{case.item}"\n' if case.item else "", case.keys + "\n" if case.keys else ""
+    kind = f'[[block]]\nname = "{front}f"\nkind = "{case.kind}"\n' + item + keys
     text = [kind, f'[[block]]\nname = "{front}out"\nkind = "vector_sink"\ntype = "{case.to or item}"\n']
     for port, tape in enumerate(case.inputs):
         text.append(f'[[block]]\nname = "{front}s{port}"\nkind = "vector_source"\ntype = "{item}"\n')
@@ -348,7 +351,8 @@ def ours_of(cases: List[Case], flow: List[str], room: Path) -> List[List[int]]:
     path.write_text("\n".join(graph_of(it, f"{at}.") for at, it in enumerate(cases)))
     said = subprocess.run([*flow, "run", "-q", str(path)], capture_output=True, text=True, check=False)
     lines = [line.split() for line in said.stdout.splitlines()]
-    sinks = {words[1]: [int(word) for word in words[3:] if not word.startswith("@")] for words in lines if words[:1] == ["sink"]}
+    sinks = {words[1]: [int(word) for word in words[3:] if not word.startswith("@")] for words in lines
+        if words[:1] == ["sink"]}
     if len(sinks) < len(cases):
         raise SystemExit(f"{cases[0].kind}: {said.stdout}{said.stderr}")
     return [sinks[f"{at}.out"] for at in range(len(cases))]
@@ -377,7 +381,8 @@ def main() -> int:
             draw_case, types = KINDS[kind]
             draw = random.Random(kind)
             cases = [draw_case(draw, types[number % len(types)]) for number in range(words.cases)]
-            given = [it for first in range(0, len(cases), TOGETHER) for it in ours_of(cases[first : first + TOGETHER], words.flow.split(), Path(room))]
+            given = [it for first in range(0, len(cases), TOGETHER)
+                for it in ours_of(cases[first : first + TOGETHER], words.flow.split(), Path(room))]
             equal = 0
             for number, (case, ours) in enumerate(zip(cases, given)):
                 theirs = theirs_of(case)

@@ -146,7 +146,8 @@ put_development() {
 # write_pc PREFIX: prints what pkg-config reads
 write_pc() {
     printf '%s\n' "prefix=$1" "libdir=\${prefix}/$lib_folder" "includedir=\${prefix}/include" '' "Name: magbelu" \
-        "Description: flowgraphs of signal blocks, on the thread of the caller" "Version: $(version_of_all)" "Cflags: -I\"\${includedir}\"" \
+        "Description: flowgraphs of signal blocks, on the thread of the caller" "Version: $(version_of_all)" \
+        "Cflags: -I\"\${includedir}\"" \
         "Libs: -L\"\${libdir}\" -lmagbelu"
 }
 

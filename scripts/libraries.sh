@@ -46,7 +46,9 @@ sum_of() {
 }
 
 # sum_of_made FOLDER: prints a sum of the files in it
-sum_of_made() { (cd -- "$1" && find . -type f -print0 | LC_ALL=C sort -z | xargs -0 sha256sum | sha256sum | cut -d ' ' -f 1); }
+sum_of_made() {
+    (cd -- "$1" && find . -type f -print0 | LC_ALL=C sort -z | xargs -0 sha256sum | sha256sum | cut -d ' ' -f 1)
+}
 
 # words_of CRATE: fills `words` with those that name the crate and all that it stands on to the prover
 words_of() {
@@ -133,12 +135,14 @@ make_libraries() {
     cd -- "$1"
     # (its scripts know no quotes)
     cp -- "$kit/c/libos_c.a" "$kit/c/liblibc_c.a" .
-    printf '%s\n' "create libmagbelu.a" "addlib $c_crate.a" "addlib liblibc_c.a" "addlib libos_c.a" save end | "$kit/toolchain/bin/llvm-ar" -M
+    printf '%s\n' "create libmagbelu.a" "addlib $c_crate.a" "addlib liblibc_c.a" "addlib libos_c.a" save end |
+        "$kit/toolchain/bin/llvm-ar" -M
     rm -- libos_c.a liblibc_c.a
     if command -v cc >/dev/null; then
         name=$(shared_name)
         echo '{ global: magbelu_*; local: *; };' >exports
-        cc -shared -Wl,-soname,"$name" -Wl,-z,relro,-z,now -Wl,--version-script=exports -Wl,--whole-archive "$c_crate.a" -Wl,--no-whole-archive \
+        cc -shared -Wl,-soname,"$name" -Wl,-z,relro,-z,now -Wl,--version-script=exports \
+            -Wl,--whole-archive "$c_crate.a" -Wl,--no-whole-archive \
             libmagbelu.a -o libmagbelu.so
         rm -- exports
         # (by this name a program looks for it that was linked with it)

@@ -25,7 +25,8 @@ filled() {
 libc_of_built() {
     local version
     version=$(
-        { objdump -T "$program"-x86-64-v* "$c_folder/libmagbelu.so" "$c_folder"/glibc-hwcaps/*/libmagbelu.so || true; } 2>/dev/null |
+        { objdump -T "$program"-x86-64-v* "$c_folder/libmagbelu.so" "$c_folder"/glibc-hwcaps/*/libmagbelu.so ||
+            true; } 2>/dev/null |
             { grep -oE 'GLIBC_[0-9.]+' || true; } | sort -Vu | tail -n 1
     )
     echo "libc6${version:+ (>= ${version#GLIBC_})}"
@@ -40,7 +41,8 @@ finish_files() {
     local file
     while IFS= read -r file; do
         gzip -9n -- "$file"
-    done < <(find "$root" -type f \( -path "$root/share/man/*" -o -path "$root/share/doc/*.md" ! -path '*/examples/*' -size +4096c \))
+    done < <(find "$root" -type f \( -path "$root/share/man/*" -o \
+        -path "$root/share/doc/*.md" ! -path '*/examples/*' -size +4096c \))
     while IFS= read -r file; do
         if ! is_binary "$file"; then
             [[ ! -x $file ]] || sed -i '1s|^#!/usr/bin/env python3$|#!/usr/bin/python3|' "$file"
@@ -67,7 +69,8 @@ write_control() {
     mkdir -- "$at"
     {
         awk -v RS= -v name="$1" '$2 == name' "$debian/control"
-        printf '%s\n' 'Version: ${version}' 'Maintainer: ${maintainer}' "Priority: optional" "Installed-Size: $(du -sk --apparent-size -- "$root" | cut -f 1)"
+        printf '%s\n' 'Version: ${version}' 'Maintainer: ${maintainer}' "Priority: optional" \
+            "Installed-Size: $(du -sk --apparent-size -- "$root" | cut -f 1)"
     } >"$at/raw"
     filled "$at/raw" >"$at/control"
     rm -- "$at/raw"

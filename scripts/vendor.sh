@@ -87,7 +87,8 @@ copy_crates() {
 tell() {
     echo "vendor: ${#order[@]} crates stand in $crates: a crate of yours may name $wanted in $to/crates.txt"
     if ! grep -qsw Threads "$to/HANDLES" || ! grep -qsw Wait "$to/HANDLES"; then
-        echo "vendor: $to/HANDLES does not allow Threads and Wait, which its runs in threads need: the line is '$(<"$top/HANDLES")'"
+        echo "vendor: $to/HANDLES does not allow Threads and Wait, which its runs in threads need:" \
+            "the line is '$(<"$top/HANDLES")'"
     fi
 }
 

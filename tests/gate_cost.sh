@@ -84,7 +84,8 @@ table() {
     echo "|---|---:|---:|---:|---:|---:|"
     awk '{ print $0, $2 + $3 + $4 }' | sort -k 6 -rn | awk '
         function row(name, proof, tests, edits, number, total) {
-            printf "| %s | %.0f | %s | %s | %s | %.0f |\n", name, proof, tests ? sprintf("%.0f", tests) : "-", number ? sprintf("%.0f", edits) : "-", number ? number : "-", total
+            printf "| %s | %.0f | %s | %s | %s | %.0f |\n", name, proof, tests ? sprintf("%.0f", tests) : "-",
+                number ? sprintf("%.0f", edits) : "-", number ? number : "-", total
         }
         { row("`" $1 "`", $2, $3, $4, $5, $6); proof += $2; tests += $3; edits += $4; number += $5; total += $6 }
         END { row("all", proof, tests, edits, number, total) }'

@@ -18,7 +18,12 @@ list_tests() {
     for folder in "${folders[@]}"; do
         for file in "$top/tests/$folder"/*.rs; do
             name=${file#"$top/tests/"}
-            awk -v name="${name%.rs}" 'is_test && match($0, /fn [a-z0-9_]+/) { print name "/" substr($0, RSTART + 3, RLENGTH - 3); is_test = 0 } /^#\[test\]$/ { is_test = 1 }' "$file"
+            awk -v name="${name%.rs}" '
+                is_test && match($0, /fn [a-z0-9_]+/) {
+                    print name "/" substr($0, RSTART + 3, RLENGTH - 3)
+                    is_test = 0
+                }
+                /^#\[test\]$/ { is_test = 1 }' "$file"
         done
     done
 }
@@ -34,10 +39,14 @@ put_folder() {
 put_tests() {
     put_folder "$1"
     sed -i 's/^mod /pub mod /' "$own/src/$1.rt"
-    sed -i '/^#\[test\]$/,/^fn /{/^#\[test\]$/d; s/^fn \([a-z0-9_]*\)(rt: HostRuntime)/pub fn \1<R: crate::Host>(rt: R)/}' "$own/src/$1"/*.rt
+    sed -i '/^#\[test\]$/,/^fn /{
+        /^#\[test\]$/d
+        s/^fn \([a-z0-9_]*\)(rt: HostRuntime)/pub fn \1<R: crate::Host>(rt: R)/
+    }' "$own/src/$1"/*.rt
     if [[ $1 == terminal ]]; then
         # (these files of the program are under test there)
-        cp -- "$top/crates/$command_crate/src/"{call,end_words,ends,kind_words,pace,slice,stretch,talk,terminal,words}.rt "$own/src/terminal"
+        cp -- "$top/crates/$command_crate/src/"{call,end_words,ends,kind_words,pace,slice,stretch,talk}.rt \
+            "$top/crates/$command_crate/src/"{terminal,words}.rt "$own/src/terminal"
     fi
 }
 
@@ -54,7 +63,8 @@ put_calls() {
     echo "pub fn call<R: Host>(rt: R, name: &str) -> ExitCode { $begin"
     echo '    match name {'
     while IFS= read -r it; do
-        [[ ! -d $own/src/${it%%/*} || $it == @(memory|programs)/* ]] || echo "        \"$it\" => ${it//\//::}(rt).report(&rt),"
+        [[ ! -d $own/src/${it%%/*} || $it == @(memory|programs)/* ]] ||
+            echo "        \"$it\" => ${it//\//::}(rt).report(&rt),"
     done <"$room/wanted"
     echo "        _ => $other,"
     echo '    }'

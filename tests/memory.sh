@@ -19,10 +19,14 @@ refused=400
 # all do that take one, and `calls` opens a plant as `live` does before its run. The bounds are near, since each case
 # takes its time; the cases at the bounds, which are always tried, test them.
 file=130
-declare -A most=([calls]=171 [live]=171 [live_adaptive]=171 [launch]=365 [whole_run]=365 [start]=366 [launch_nothing]=14 [adaptive]=365 [pool]=365 [check]=172 [feeds]=210 [draw]=168 [run]=236 [per_block]=254 [alone]=232
-    [chain]=195 [script]=244 [lines]=235 [tags]=260 [settings]=215 [fork]=245 [raw]=208 [piped]=260 [helped]=320 [stall]=220 [words]=26 [call]=330 [file]=24 [steady]=183)
-declare -A left_out=([calls]=0 [live]=102 [live_adaptive]=102 [launch]=264 [whole_run]=264 [start]=264 [launch_nothing]=0 [adaptive]=264 [pool]=264 [check]=0 [feeds]=$file [draw]=$file [run]=$file [per_block]=$file [alone]=$file
-    [chain]=0 [script]=$file [lines]=$file [tags]=$file [settings]=$file [fork]=$file [raw]=$file [piped]=$file [helped]=$file [stall]=$file [words]=0 [call]=0 [file]=0 [steady]=175)
+declare -A most=([calls]=171 [live]=171 [live_adaptive]=171 [launch]=365 [whole_run]=365 [start]=366
+    [launch_nothing]=14 [adaptive]=365 [pool]=365 [check]=172 [feeds]=210 [draw]=168 [run]=236 [per_block]=254
+    [alone]=232 [chain]=195 [script]=244 [lines]=235 [tags]=260 [settings]=215 [fork]=245 [raw]=208 [piped]=260
+    [helped]=320 [stall]=220 [words]=26 [call]=330 [file]=24 [steady]=183)
+declare -A left_out=([calls]=0 [live]=102 [live_adaptive]=102 [launch]=264 [whole_run]=264 [start]=264
+    [launch_nothing]=0 [adaptive]=264 [pool]=264 [check]=0 [feeds]=$file [draw]=$file [run]=$file [per_block]=$file
+    [alone]=$file [chain]=0 [script]=$file [lines]=$file [tags]=$file [settings]=$file [fork]=$file [raw]=$file
+    [piped]=$file [helped]=$file [stall]=$file [words]=0 [call]=0 [file]=0 [steady]=175)
 
 # list_memory: each case has the number of the allocation of its task that is refused
 list_memory() {
@@ -48,7 +52,8 @@ said_of() { head -n 1 "$room/came/$1.stdout"; }
 wanted_of() {
     local first='(inside|outside)'
     case $1 in
-    calls | check | live | live_adaptive | launch | whole_run | start | launch_nothing | adaptive | pool | chain | words | call | file) first=outside ;;
+    calls | check | live | live_adaptive | launch | whole_run | start | launch_nothing) first=outside ;;
+    adaptive | pool | chain | words | call | file) first=outside ;;
     steady) first=early ;;
     *) first=inside ;;
     esac
@@ -94,7 +99,8 @@ judge_allocation() {
         passed "$name"
     else
         {
-            echo "allocation $2 of $1 fails: wanted status 0 and ${wanted//|/ or }, and there came status $status, \"$said\" and"
+            echo "allocation $2 of $1 fails: wanted status 0 and ${wanted//|/ or },"
+            echo "and there came status $status, \"$said\" and"
             cat -- "$room/came/$name.errors"
         } | failed "$name"
     fi
@@ -106,7 +112,8 @@ put_memory() {
     if grep -qE '^(memory|no_threads)/' "$room/wanted"; then
         echo "memory: MEMORY_EIGHTH=$eighth"
         put_folder memory
-        cp -- "$top/crates/$command_crate/src/"{call,end_words,ends,kind_words,slice,stretch,talk,words}.rt "$own/src/memory"
+        cp -- "$top/crates/$command_crate/src/"{call,end_words,ends,kind_words,slice,stretch,talk,words}.rt \
+            "$own/src/memory"
         printf '%3000s' '' >"$room/file"
     fi
 }

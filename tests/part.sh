@@ -52,7 +52,8 @@ build_copy() {
     shift
     kit=$(dirname -- "$(rt doc)")
     # shellcheck disable=SC2034  # It is for the scripts that source this.
-    start=("$kit/toolchain/lib/ld-linux-x86-64.so.2" --inhibit-cache --library-path "$kit/toolchain/lib" "$room/program")
+    start=("$kit/toolchain/lib/ld-linux-x86-64.so.2" --inhibit-cache --library-path "$kit/toolchain/lib"
+        "$room/program")
     mkdir "$room/copy"
     : >"$room/copy/copy"
     printf '%s\n' "$@" >"$room/copy/copy.args"

@@ -4,7 +4,8 @@
 # has: as libraries of the one program, so that what stands below them is compiled once. And that README.md quotes that
 # of examples/embed word for word.
 
-programs=(benches/kernel_bench benches/graph_bench benches/thread_bench examples/embed examples/own_block examples/pipeline)
+programs=(benches/kernel_bench benches/graph_bench benches/thread_bench examples/embed examples/own_block
+    examples/pipeline)
 
 list_programs() {
     printf '%s\n' "${programs[@]}"
@@ -28,13 +29,13 @@ put_bench_library() {
 # put_example EXAMPLE: a program of examples/ as a library, whose `main` takes any runtime, since only a program's own
 # is given one by name
 put_example() {
-    local name own
+    local name own host="Threads + Wait + Clock + AllocGlobal + Print + Copy + Send + 'static"
     name=$(crate_of "$1")
     own=$room/tree/crates/$name
     put_apart tree "$name" magbelu
     put_sources "$top/$1" "$own"
     sed "s/^use std::alloc::Global;/&\nuse std::sync::Wait;\nuse std::thread::Threads;\nuse std::time::Clock;/
-        s/^fn main(rt: HostRuntime)/pub fn main<R: Threads + Wait + Clock + AllocGlobal + Print + Copy + Send + 'static>(rt: R)/" "$own/src/main.rt" >"$own/src/lib.rt"
+        s/^fn main(rt: HostRuntime)/pub fn main<R: $host>(rt: R)/" "$own/src/main.rt" >"$own/src/lib.rt"
     rm -- "$own/src/main.rt"
 }
 

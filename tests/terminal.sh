@@ -30,7 +30,8 @@ block = [
     { name = "two", kind = "vector_source", type = "byte" },
     { name = "out", kind = "vector_sink", type = "byte" },
 ]
-connect = [{ from = "many", to = "more" }, { from = "more", to = "most" }, { from = "most", to = "none" }, { from = "two", to = "out" }]
+connect = [{ from = "many", to = "more" }, { from = "more", to = "most" }, { from = "most", to = "none" },
+    { from = "two", to = "out" }]
 END
     printf 'feed = [{ source = "two", items = [7, 8] }, { source = "many", items = ['
     head -n "$((count - 2))" < <(yes 5,) | tr -d '\n'
@@ -41,7 +42,8 @@ END
 # output in the file `output`
 on_terminal() {
     local status=0
-    script -q -e -c "exec $(printf '%q ' "$program" "$@") >$(printf '%q' "$room/output")" "$room/shown" </dev/null >/dev/null || status=$?
+    script -q -e -c "exec $(printf '%q ' "$program" "$@") >$(printf '%q' "$room/output")" "$room/shown" </dev/null \
+        >/dev/null || status=$?
     [[ $status == 0 ]] || wrong "$*: status $status on a terminal"
     [[ $(cat "$room/output") == "$wanted" ]] || wrong "$*: another output on a terminal"
     # (`script` writes a first and a last line of its own)
@@ -63,7 +65,8 @@ block = [{ name = "src", kind = "vector_source", type = "byte" }, { name = "out"
 connect = [{ from = "src", to = "out" }]
 END
 flow=$(printf '%q ' "$program" run -i src=- -o out=/dev/null --tags out=- "$room/plain.toml")
-script -q -e -c "head -c 1000000000 /dev/zero | $flow" "$room/shown" </dev/null >/dev/null || wrong "status $? of a stream on a terminal"
+script -q -e -c "head -c 1000000000 /dev/zero | $flow" "$room/shown" </dev/null >/dev/null ||
+    wrong "status $? of a stream on a terminal"
 shown=$(grep -v '^Script ' "$room/shown" || true)
 [[ $shown == $'sink out 1000000000\r\ndone\r' ]] || wrong "a stream on a terminal shows: $(printf '%q' "$shown")"
 echo "terminal: a long run shows how far it is; a quiet one does not, nor one whose items or tags go there"

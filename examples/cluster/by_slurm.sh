@@ -12,7 +12,8 @@ tasks=1-$1
 # (Slurm queues the task of a lost node again, by --requeue. A task that was killed leaves no part, and is in the next
 # array.)
 for _ in 1 2 3; do
-    sbatch --wait --requeue --chdir="$joined.parts" --array="$tasks" "${@:5}" "$here/slice.sh" "$graph" "$recording" "$joined" "$1" || true
+    sbatch --wait --requeue --chdir="$joined.parts" --array="$tasks" "${@:5}" "$here/slice.sh" "$graph" "$recording" \
+        "$joined" "$1" || true
     tasks=$(for at in $(seq "$1"); do [[ -f $joined.parts/part.$at ]] || echo "$at"; done | paste -sd ,)
     [[ -n $tasks ]] || break
 done

@@ -35,7 +35,8 @@ graph.settle()
 items, tags = graph.read("out")
 print(len(items), "items,", tags)
 
-# %% The first periods of the sine, and the whistle, which stands at a quarter of a cycle per item before the filter and nowhere behind it.
+# %% The first periods of the sine, and the whistle, which stands at a quarter of a cycle per item before the filter and
+# nowhere behind it.
 figure, places = pyplot.subplots(2, 2, figsize=(11, 5), layout="constrained")
 graph.plot("raw", 0, 9600, axes=places[0, 0])
 graph.plot("raw", spectrum=True, axes=places[1, 0])

@@ -72,7 +72,8 @@ class Plot:
 
     def text(self) -> str:
         """The picture."""
-        head = f'<svg xmlns="http://www.w3.org/2000/svg" viewBox="0 0 {WIDTH} {self.height}" font-family="sans-serif" font-size="12">'
+        head = (f'<svg xmlns="http://www.w3.org/2000/svg" viewBox="0 0 {WIDTH} {self.height}" '
+            'font-family="sans-serif" font-size="12">')
         return "\n".join(
             [head, f'<rect width="{WIDTH}" height="{self.height}" fill="white"/>', *self.parts, "</svg>", ""]
         )

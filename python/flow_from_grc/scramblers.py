@@ -65,7 +65,8 @@ def _widened(settings: Settings, register: Part, width: int) -> Node:
     """As many bits of the register as a byte takes, its lowest bit first: the register has so many zeros for each byte,
     and what it gives is packed."""
     zeros = Part("and_const", {"type": str(_BYTE), "value": 0, "tags": "none"})
-    parts = [zeros, Part("repeat", {"type": str(_BYTE), "n": width}), register, Part("repack_bits", {"k": 1, "l": width, "order": "lsb_first"})]
+    parts = [zeros, Part("repeat", {"type": str(_BYTE), "n": width}), register,
+        Part("repack_bits", {"k": 1, "l": width, "order": "lsb_first"})]
     return _joined(settings, *parts)
 
 
@@ -76,7 +77,8 @@ def _begun_anew(settings: Settings, width: int, count: int) -> Node:
     if count <= _MOST_VALUES:
         return _joined(settings, Part("pattern", {"type": str(_BYTE), "values": added, "tags": "none"}))
     following = [*range(1, count), 0]
-    return _joined(settings, Part("state_machine", {"symbols": 1, "next": following, "output": added, "init": 0, "tags": "none"}))
+    keys = {"symbols": 1, "next": following, "output": added, "init": 0, "tags": "none"}
+    return _joined(settings, Part("state_machine", keys))
 
 
 def _register(settings: Settings, most_bits: int) -> Tuple[int, int, int]:

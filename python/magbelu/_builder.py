@@ -95,7 +95,7 @@ class Builder(KindBlocks):
      --> the block more:1:57
       |
     1 | block = [{ name = "more", kind = "fir", type = "short", tabs = [1] }]
-      |                                                         ^ a block of the kind fir has no key `tabs`; it has: name, kind, type, taps, ...
+      |                                                         ^ a block of the kind fir has no key `tabs`; it has: name, ...
     """
 
     def __init__(self) -> None:

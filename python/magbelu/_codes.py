@@ -46,14 +46,16 @@ def convolutional(*polynomials: SupportsIndex, order: Order = "msb_first") -> Co
     >>> _ = builder.block("errors", "vector_source", type="byte")
     >>> _ = builder.block("row", "interleave", type="byte", ports=code.outputs)
     >>> _ = builder.block(
-    ...     "decoder", "viterbi", type="byte", symbols=code.symbols, next=code.next, outputs=code.outputs, output=code.output, steps=10, start=0, end=0
+    ...     "decoder", "viterbi", type="byte", symbols=code.symbols, next=code.next, outputs=code.outputs,
+    ...     output=code.output, steps=10, start=0, end=0
     ... )
     >>> for number, values in enumerate(code.metrics):
     ...     _ = builder.block("far%d" % number, "table", to="byte", values=values)
     ...     builder.connect("wrong", "far%d" % number)
     ...     builder.connect("far%d" % number, ("row", number))
-    >>> for ends in (("src", "coder"), ("coder", "wrong"), ("errors", ("wrong", 1)), ("row", "decoder"), ("decoder", "out")):
+    >>> for ends in (("src", "coder"), ("coder", "wrong"), ("errors", ("wrong", 1)), ("row", "decoder")):
     ...     builder.connect(*ends)
+    >>> builder.connect("decoder", "out")
     >>> graph = builder.graph()
     >>> _ = graph.feed("src", [1, 0, 1, 1, 0, 0, 1, 0, 0, 0]), graph.feed("errors", [0, 0, 3, 0, 0, 0, 0, 0, 0, 0])
     >>> graph.settle(), graph.read("out")[0].tolist()

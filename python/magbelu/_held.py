@@ -241,9 +241,11 @@ class Held:
         """How the runs of the graph are cut into slices of time that give the items of the whole run, and with `tags`
         its tags too. 63 refuses a graph with a block that keeps all that it was given.
 
-        >>> graph = magbelu.Graph(magbelu.EXAMPLE.replace("add_const", "moving_sum").replace("value = 10", "length = 4"))
-        >>> graph.slices()
-        Slices(overlap=3, sources=[SourceSlices(source='src', period=1, overlap=3)], sinks=[SinkSlices(sink='out', period=1, drop=3)], counts=None)
+        >>> text = magbelu.EXAMPLE.replace("add_const", "moving_sum").replace("value = 10", "length = 4")
+        >>> graph = magbelu.Graph(text)
+        >>> plan = graph.slices()
+        >>> plan.overlap, plan.sources, plan.sinks
+        (3, [SourceSlices(source='src', period=1, overlap=3)], [SinkSlices(sink='out', period=1, drop=3)])
         """
         return plan_of(self, tags)
 
@@ -252,7 +254,8 @@ class Held:
         (`Stream.anew`) is fed what it does not leave out of its sources. Behind what is dropped, it gives each sink
         what the whole run gives from there on.
 
-        >>> graph = magbelu.Graph(magbelu.EXAMPLE.replace("add_const", "moving_sum").replace("value = 10", "length = 4"))
+        >>> text = magbelu.EXAMPLE.replace("add_const", "moving_sum").replace("value = 10", "length = 4")
+        >>> graph = magbelu.Graph(text)
         >>> graph.slice(100)
         Slice(leaves_out=97, parts=[SinkPart(sink='out', drop=3, stands=100)])
         """

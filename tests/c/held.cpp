@@ -22,7 +22,8 @@ static void must(bool holds, const std::string &saying) {
 /* A source, a block that adds ten, and a sink. */
 static std::string chain_file(const std::string &type) {
     const std::string own = "type = \"" + type + "\"";
-    return "block = [{ name = \"src\", kind = \"vector_source\", " + own + " }, { name = \"add\", kind = \"add_const\", " + own +
+    return "block = [{ name = \"src\", kind = \"vector_source\", " + own +
+        " }, { name = \"add\", kind = \"add_const\", " + own +
            ", value = 10 },\n    { name = \"out\", kind = \"vector_sink\", " + own +
            " }]\nconnect = [{ from = \"src\", to = \"add\" }, { from = \"add\", to = \"out\" }]\n";
 }
@@ -44,7 +45,8 @@ static void refuses(std::uint32_t number, const std::string &line, const std::fu
         must(error.number() == number && error.what() == text,
              "wanted '" + text + "', and it is '" + error.what() + "'");
         must(!error.floor(), "a first item that is open");
-        const std::string head = std::to_string(number) + " " + error.name() + (error.detail().empty() ? "" : " " + error.detail());
+        const std::string head = std::to_string(number) + " " + error.name() +
+            (error.detail().empty() ? "" : " " + error.detail());
         must(head == line.substr(0, line.find('\n')),
              "wanted the name and the detail of '" + line + "', and they are '" + head + "'");
         return;
@@ -151,7 +153,8 @@ static void wrong_calls_are_refused() {
 }
 
 static void places_of_faults_are_shown() {
-    const std::string before = "42 MissingKey block 0 name\n --> ", behind = ":1:1\n  |\n1 | [[block]]\n  | ^ a block needs the key `name`: a text";
+    const std::string before = "42 MissingKey block 0 name\n --> ",
+        behind = ":1:1\n  |\n1 | [[block]]\n  | ^ a block needs the key `name`: a text";
     refuses(42, before + "<graph>" + behind, [] { magbelu::graph("[[block]]"); });
     // A path so long that a first room does not take the place.
     const std::string path(10000, 'p');
@@ -206,7 +209,8 @@ static void streams_go_on() {
         must(stream.feed("src", items, {{at * 1000u, "k", at}}) == (at + 1) * 1000u, "how many items were fed");
         must(stream.need("src") == magbelu::wait::ready && !stream.settle(), "an open source is done");
         const auto some = stream.drain<std::int16_t>("out", 1);
-        must(some.items == std::vector<std::int16_t>{static_cast<std::int16_t>(at + 10)} && some.held == (at + 1) * 1000u, "the first item of a piece");
+        must(some.items == std::vector<std::int16_t>{static_cast<std::int16_t>(at + 10)} &&
+            some.held == (at + 1) * 1000u, "the first item of a piece");
         must(some.tags.size() == 1 && some.tags[0].offset == at * 1000u && some.tags[0].value == at,
              "the tag of a piece");
         must(stream.drain<std::int16_t>("out").items.size() == 999 && stream.drain<std::int16_t>("out").items.empty(),
@@ -235,11 +239,13 @@ static void slices_are_told() {
          "how a source is cut");
     must(plan.sinks[0].block == 2 && plan.sinks[0].period == 1 && plan.sinks[0].drop == 0, "how a sink is cut");
     const auto start = magbelu::stream(chain_file("short")).slice(5, true);
-    must(start.leaves_out == 5 && start.parts.size() == 1 && start.parts[0].block == 2 && start.parts[0].drop == 0 && start.parts[0].stands == 5, "a slice");
+    must(start.leaves_out == 5 && start.parts.size() == 1 && start.parts[0].block == 2 && start.parts[0].drop == 0 &&
+        start.parts[0].stands == 5, "a slice");
     must(plan.counts == MAGBELU_NO_BLOCK, "which block counts");
     refuses(64, "64 NoCut", [&] { graph.slice((std::uint64_t(1) << 46) + 1); });
     auto later = magbelu::stream::at(5, chain_file("short"));
-    must(later.feed("src", {6, 7}) == 2 && !later.settle() && later.drain<std::int16_t>("out").items == std::vector<std::int16_t>{16, 17}, "a stream for a slice");
+    must(later.feed("src", {6, 7}) == 2 && !later.settle() &&
+        later.drain<std::int16_t>("out").items == std::vector<std::int16_t>{16, 17}, "a stream for a slice");
     refuses(64, "64 NoCut", [] { magbelu::stream::at((std::uint64_t(1) << 46) + 1, chain_file("short")); });
     refuses(42, "42 MissingKey block 0 name\n --> a.toml:1:1\n  |\n1 | [[block]]\n  | ^ a block needs the key `name`: a text",
             [] { magbelu::stream::at(5, "[[block]]", "a.toml"); });
@@ -253,13 +259,16 @@ static void slices_are_told() {
 static void graphs_are_listed() {
     auto graph = chain("short");
     const auto blocks = graph.blocks();
-    must(blocks.size() == 3 && blocks[0].name == "src" && blocks[0].kind == "vector_source" && blocks[0].role == magbelu::role::source, "a source");
+    must(blocks.size() == 3 && blocks[0].name == "src" && blocks[0].kind == "vector_source" &&
+        blocks[0].role == magbelu::role::source, "a source");
     must(blocks[0].inputs == 0 && blocks[0].outputs == 1 && blocks[0].output_type == magbelu::item_type::shorts,
          "its ports");
-    must(blocks[1].role == magbelu::role::work && blocks[1].inputs == 1 && blocks[1].input_type == magbelu::item_type::shorts, "a block that works");
+    must(blocks[1].role == magbelu::role::work && blocks[1].inputs == 1 &&
+        blocks[1].input_type == magbelu::item_type::shorts, "a block that works");
     must(blocks[2].name == "out" && blocks[2].role == magbelu::role::sink && blocks[2].outputs == 0, "a sink");
     const auto connections = magbelu::stream(chain_file("int")).connections();
-    must(connections.size() == 2 && connections[0].from == 0 && connections[0].to == 1 && connections[1].from == 1 && connections[1].to == 2, "connections");
+    must(connections.size() == 2 && connections[0].from == 0 && connections[0].to == 1 && connections[1].from == 1 &&
+        connections[1].to == 2, "connections");
     must(connections[1].out_port == 0 && connections[1].in_port == 0, "their ports");
     must(graph.draw().rfind("digraph {\n", 0) == 0 && graph.draw(magbelu::drawing::mermaid).rfind("flowchart LR\n",
         0) == 0, "drawings");
@@ -278,11 +287,13 @@ static void settings_and_rates_are_told() {
     auto graph = chain("short");
     must(graph.rooms() == std::vector<std::uint64_t>{4096, 4096}, "rooms");
     const auto setting = graph.setting(1);
-    must(setting.number && setting.number->least == -32768 && setting.number->most == 32767 && setting.number->value == 10 && !setting.taps, "a number");
+    must(setting.number && setting.number->least == -32768 && setting.number->most == 32767 &&
+        setting.number->value == 10 && !setting.taps, "a number");
     must(!graph.setting(0).number && !graph.setting(2).taps, "nothing that may be set");
     refuses(20, "20 NoSuchBlock", [&] { graph.setting(3); });
     const auto rates = graph.rates(1);
-    must(rates.takes == std::vector<std::uint64_t>{1} && rates.gives == 1 && rates.shift == magbelu::shift::alike && rates.shifted == 0, "rates");
+    must(rates.takes == std::vector<std::uint64_t>{1} && rates.gives == 1 && rates.shift == magbelu::shift::alike &&
+        rates.shifted == 0, "rates");
     must(graph.rates(0).takes.empty() && graph.rates(2).takes.size() == 1, "those of a source and a sink");
     refuses(20, "20 NoSuchBlock", [&] { graph.rates(3); });
     must(graph.firings() == std::vector<std::uint32_t>{1, 1, 1}, "firings");
@@ -290,9 +301,11 @@ static void settings_and_rates_are_told() {
     for (int at = 1; at < 100; at++) {
         taps += ", " + std::to_string(at);
     }
-    const auto own = magbelu::stream(with_block("kind = \"fir\", type = \"short\", taps = [" + taps + "]")).setting(1).taps;
+    const auto file = with_block("kind = \"fir\", type = \"short\", taps = [" + taps + "]");
+    const auto own = magbelu::stream(file).setting(1).taps;
     must(own && own->size() == 100 && own->at(0) == 0 && own->at(99) == 99, "taps");
-    const std::string halved = "kind = \"keep_one_in_n\", type = \"short\", n = 2 }, { name = \"sum\", kind = \"add\", type = \"short\"";
+    const std::string halved =
+        "kind = \"keep_one_in_n\", type = \"short\", n = 2 }, { name = \"sum\", kind = \"add\", type = \"short\"";
     auto uneven = magbelu::graph("block = [{ name = \"src\", kind = \"vector_source\", type = \"short\" }, { name = \"half\", " + halved +
                                  " },\n    { name = \"out\", kind = \"null_sink\", type = \"short\" }]\n"
                                  "connect = [{ from = \"src\", to = \"half\" }, { from = \"src\", to = \"sum\" },\n"

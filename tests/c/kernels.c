@@ -17,7 +17,8 @@ void kernels(void) {
     for (at = 0; at < 40; at++) {
         must(out[at] == (int16_t)(uint16_t)(32760 + 4 * at), "an item of a sum");
     }
-    must(magbelu_kernel_add_shorts(a, 40, b, 39, out, 40) == MAGBELU_LENGTHS && magbelu_kernel_add_shorts(a, 40, b, 40, out, 39) == MAGBELU_LENGTHS, "lengths");
+    must(magbelu_kernel_add_shorts(a, 40, b, 39, out, 40) == MAGBELU_LENGTHS &&
+        magbelu_kernel_add_shorts(a, 40, b, 40, out, 39) == MAGBELU_LENGTHS, "lengths");
     must(out[0] == 32760, "a kernel that was refused writes");
     must(magbelu_kernel_add_number_shorts(b, 40, -3, out, 40) == 0 && out[39] == 114, "a number more");
     must(magbelu_kernel_multiply_shorts(b, 40, 1000, out, 40) == 0 && out[39] == (int16_t)(uint16_t)117000,

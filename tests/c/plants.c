@@ -151,7 +151,8 @@ static void settings_and_rates(struct magbelu_plant *plant) {
  * twice.
  */
 static void slow_filter(void) {
-    static const char file[] = "block = [{ name = \"src\", kind = \"vector_source\", type = \"short\" }, { name = \"skip\", kind = \"skiphead\", type = \"short\", n = 5 },\n"
+    static const char file[] =
+        "block = [{ name = \"src\", kind = \"vector_source\", type = \"short\" }, { name = \"skip\", kind = \"skiphead\", type = \"short\", n = 5 },\n"
                                "    { name = \"zeros\", kind = \"delay\", type = \"short\", n = 4 },\n"
                                "    { name = \"fir\", kind = \"fir\", type = \"short\", taps = [1, -2, 3], decimation = 3, multiple = 2 },\n"
                                "    { name = \"out\", kind = \"vector_sink\", type = \"short\" }]\n"
@@ -180,7 +181,8 @@ static void slow_filter(void) {
 }
 
 static void refusals(struct magbelu_plant *plant) {
-    const struct magbelu_tag off = {9, 1, (const uint8_t *)"a", 1}, bad = {0, 1, (const uint8_t *)"a b", 3}, null = {0, 1, NULL, 0};
+    const struct magbelu_tag off = {9, 1, (const uint8_t *)"a", 1}, bad = {0, 1, (const uint8_t *)"a b", 3},
+        null = {0, 1, NULL, 0};
     const int64_t wide[1] = {40000};
     struct magbelu_piece piece;
     char bytes[4] = "abc";
@@ -233,7 +235,9 @@ void held(void) {
     shows(&plant, 2, 9, "\15\0", 2, 3, "@2:end=3/0\n");
     shows(&plant, 3, 9, "", 0, 3, "");
     replied(magbelu_set(&plant, "add", 3, 0, 10), 1, MAGBELU_LATE, 0, 3, "a late setting");
-    must(strcmp(magbelu_name(27), "Late") == 0 && strcmp(magbelu_reason(27), "the setting begins before the first item that is open") == 0, "a name and a reason");
+    must(strcmp(magbelu_name(27), "Late") == 0 &&
+        strcmp(magbelu_reason(27), "the setting begins before the first item that is open") == 0,
+        "a name and a reason");
     must(strcmp(magbelu_name(0), "") == 0 && strcmp(magbelu_reason(30), "") == 0,
          "the name and the reason of no refusal");
     replied(magbelu_feed(&plant, "src", 3, 1, "\0\1", 2, NULL, 0), 0, 0, 0, 4, "the highest byte first");

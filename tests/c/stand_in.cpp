@@ -128,7 +128,8 @@ extern "C" {
 magbelu_answer magbelu_bytes_explain(const std::uint8_t *name, std::size_t name_len, const std::uint8_t *, std::size_t,
                                      std::uint8_t *output, std::size_t room, std::uint8_t *error,
                                      std::size_t error_room) {
-    const std::string place = " --> " + text_of(name, name_len) + ":1:1\n  |\n1 | [[block]]\n  | ^ a block needs the key `name`: a text\n";
+    const std::string why = ":1:1\n  |\n1 | [[block]]\n  | ^ a block needs the key `name`: a text\n";
+    const std::string place = " --> " + text_of(name, name_len) + why;
     return {1, 42, put(place, output, room), put("flow: refused 42 MissingKey block 0 name\n", error, error_room)};
 }
 
@@ -150,7 +151,9 @@ magbelu_answer magbelu_bytes_open(magbelu_plant *held, const std::uint8_t *file,
     if (text == "[[block]]") {
         return {1, 42, 0, put("flow: refused 42 MissingKey block 0 name\n", error, error_room)};
     }
-    held->at = new plant(text.find("\"short\"") != std::string::npos ? 2 : text.find("\"int\"") != std::string::npos ? 4 : 1);
+    const bool has_shorts = text.find("\"short\"") != std::string::npos;
+    const bool has_ints = text.find("\"int\"") != std::string::npos;
+    held->at = new plant(has_shorts ? 2 : has_ints ? 4 : 1);
     in(held).keeps_all = text.find("diff_encoder") != std::string::npos;
     in(held).has_taps = text.find("fir") != std::string::npos;
     in(held).is_uneven = text.find("keep_one_in_n") != std::string::npos;
@@ -246,7 +249,8 @@ magbelu_answer magbelu_bytes_open_stream(magbelu_plant *held, const std::uint8_t
 
 magbelu_answer magbelu_bytes_open_stream_at(magbelu_plant *held, const std::uint8_t *file, std::size_t file_len,
                                             std::uint64_t iterations, std::uint8_t *error, std::size_t error_room) {
-    return iterations > std::uint64_t(1) << 46 ? magbelu_answer{1, MAGBELU_NO_CUT, 0, 0} : magbelu_bytes_open(held, file, file_len, error, error_room);
+    return iterations > std::uint64_t(1) << 46 ? magbelu_answer{1, MAGBELU_NO_CUT, 0, 0}
+                                               : magbelu_bytes_open(held, file, file_len, error, error_room);
 }
 
 magbelu_reply magbelu_bytes_need(magbelu_plant *held, const std::uint8_t *name, std::size_t len) {
@@ -255,7 +259,8 @@ magbelu_reply magbelu_bytes_need(magbelu_plant *held, const std::uint8_t *name, 
         return number != 0 ? refuse(number) : magbelu_reply{0, 0, MAGBELU_WAITS_ITEMS, 0};
     }
     const plant &own = in(held);
-    const std::uint32_t what = own.sink.size() < own.tape.size() ? MAGBELU_READY : own.is_closed ? MAGBELU_DONE : MAGBELU_WAITS_FEED;
+    const std::uint32_t what =
+        own.sink.size() < own.tape.size() ? MAGBELU_READY : own.is_closed ? MAGBELU_DONE : MAGBELU_WAITS_FEED;
     return {0, 0, what, 0};
 }
 

@@ -29,7 +29,8 @@ static void drains(struct magbelu_stream *stream, uint64_t max, const char *want
 static void levels_are(struct magbelu_stream *stream, const char *block, uint32_t status, uint32_t number,
                        uint64_t taken, uint64_t given, uint64_t waiting) {
     const struct magbelu_levels told = magbelu_stream_levels(stream, block, strlen(block));
-    must(told.status == status && told.number == number && told.taken == taken && told.given == given && told.waiting == waiting, "how far a block is");
+    must(told.status == status && told.number == number && told.taken == taken && told.given == given &&
+        told.waiting == waiting, "how far a block is");
 }
 
 static void none_streams(struct magbelu_stream *stream) {

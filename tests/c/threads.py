@@ -27,7 +27,8 @@ def with_others(stream, run):
         except BaseException as fault:  # noqa: B902 (whatever ends a thread fails the test)
             faults.append(fault)
 
-    calls = [lambda value: settings.append((stream.set("add", value), value)), lambda _: (stream.levels("add"), stream.need("src"))]
+    calls = [lambda value: settings.append((stream.set("add", value), value)),
+        lambda _: (stream.levels("add"), stream.need("src"))]
     others = [threading.Thread(target=again, args=(call,)) for call in calls]
     for other in others:
         other.start()
@@ -44,7 +45,8 @@ def with_others(stream, run):
 def each_is_as_it_was_set(items, settings):
     """Each item is that of the tape and what was set last from it on."""
     assert len(items) == len(TAPE), len(items)
-    assert [at for at, _ in settings] == sorted(at for at, _ in settings), "a setting begins before the one that was made first"
+    begins = [at for at, _ in settings]
+    assert begins == sorted(begins), "a setting begins before the one that was made first"
     turn = 0
     for at, item in enumerate(items):
         while turn + 1 < len(settings) and settings[turn + 1][0] <= at:
@@ -54,7 +56,8 @@ def each_is_as_it_was_set(items, settings):
 
 def pieces_are_gone_through():
     stream = magbelu.Stream(CHAIN % ("short", "short", "short"))
-    each_is_as_it_was_set(*with_others(stream, lambda: [item for piece in stream.through(src=PARTS) for item in piece.items.tolist()]))
+    each_is_as_it_was_set(*with_others(stream, lambda: [item for piece in stream.through(src=PARTS)
+        for item in piece.items.tolist()]))
 
 
 def pieces_are_waited_for():

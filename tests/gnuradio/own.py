@@ -390,7 +390,8 @@ class Chunks(gr.hier_block2):
 
     def __init__(self, type: str, values: Sequence[int]) -> None:
         super().__init__("chunks", gr.io_signature(1, 1, SIZES[type]), gr.io_signature(1, 1, SIZES["int"]))
-        self.connect(self, getattr(digital, "chunks_to_symbols_%sf" % LETTERS[type])(values, 1), blocks.float_to_int(1, 1), self)
+        self.connect(self, getattr(digital, "chunks_to_symbols_%sf" % LETTERS[type])(values, 1),
+            blocks.float_to_int(1, 1), self)
 
 
 def chunks() -> None:
@@ -579,10 +580,12 @@ def additive_scrambler() -> None:
     bits of a byte is xor with what a register gives, packed."""
 
     def trial(chance: random.Random) -> None:
-        width, count = chance.randint(1, 8), chance.choice([0, chance.randint(1, 4), chance.randint(5, 256), chance.randint(257, 600), 4096])
+        width = chance.randint(1, 8)
+        count = chance.choice([0, chance.randint(1, 4), chance.randint(5, 256), chance.randint(257, 600), 4096])
         length = chance.randint(1, 63 if count else 31)
         # (a register that goes on comes to each seed if it reads its lowest bit)
-        mask, seed = chance.getrandbits(length + 1) | (1 if not count else 1 << chance.randint(0, length)), chance.getrandbits(length + 1)
+        mask = chance.getrandbits(length + 1) | (1 if not count else 1 << chance.randint(0, length))
+        seed = chance.getrandbits(length + 1)
         fed = stream(chance, "byte", chance.randint(1, 300) + chance.randint(0, 1) * count)
         if not count and width == 1:
             fed = fed._replace(items=[it & 1 for it in fed.items])

@@ -9,7 +9,8 @@ begin_anew() { rm -f "$room/bin/proved" "$room/bin/jobs"; }
 proved() {
     local crate it so_far=" "
     touch "$room/bin/proved"
-    cmp -s <(printf '%s\n' "$@" | sort) <(sort "$room/bin/proved") || wrong "proved was $(paste -sd ' ' "$room/bin/proved"), and not: $*"
+    cmp -s <(printf '%s\n' "$@" | sort) <(sort "$room/bin/proved") ||
+        wrong "proved was $(paste -sd ' ' "$room/bin/proved"), and not: $*"
     while read -r crate; do
         for it in ${uses[$crate]}; do
             [[ " $* " != *" $it "* || $so_far == *" $it "* ]] || wrong "$crate was proved before $it"
@@ -40,9 +41,11 @@ build_proves_each_crate_once() {
     proved "${order[@]}"
     for crate in "${order[@]}"; do
         number=$((number + 1))
-        grep -qE "^[0-9]+ of ${#order[@]} $crate proved, [0-9]+ s$" "$room/errors" || wrong "./build has no line of $crate"
+        grep -qE "^[0-9]+ of ${#order[@]} $crate proved, [0-9]+ s$" "$room/errors" ||
+            wrong "./build has no line of $crate"
         grep -q "^$number of " "$room/errors" || wrong "./build has no line $number"
-        [[ -e $tree/crates/$crate/out/built/stamp && ! -e $tree/crates/$crate/out/part ]] || wrong "./build left $crate half made"
+        [[ -e $tree/crates/$crate/out/built/stamp && ! -e $tree/crates/$crate/out/part ]] ||
+            wrong "./build left $crate half made"
     done
     calls 0 env PATH="$room/tools" ./flow_by_link after build
     writes output "built: after,build"
@@ -108,7 +111,8 @@ made_for() {
     calls 0 ./build_by_link
     proved "$program_crate"
     grep -q "^build: the program is built for $1, " "$room/errors" || wrong "./build does not say that it builds for $1"
-    cmp -s <(cd -- "$(dirname -- "$built")" && echo "$program_crate"-*) <(echo "$program_crate-$1") || wrong "./build makes the program for other processors than $1"
+    cmp -s <(cd -- "$(dirname -- "$built")" && echo "$program_crate"-*) <(echo "$program_crate-$1") ||
+        wrong "./build makes the program for other processors than $1"
 }
 
 # The loader says which processor it is, or else Linux. Stand-ins say so here.

@@ -23,7 +23,8 @@ install_puts_all_in_place() {
     [[ ! -e $room/bin/proved ]] || wrong "--install proves again what was proved"
     brings lib/magbelu/x86-64-v2/flow "$built-x86-64-v2"
     brings lib/magbelu/x86-64-v3/flow "$built-x86-64-v3"
-    grep -qx "build: the library for C is not installed: ./build --c has not built it from these sources" "$room/errors" || wrong "--install says nothing of C"
+    grep -qx "build: the library for C is not installed: ./build --c has not built it from these sources" \
+        "$room/errors" || wrong "--install says nothing of C"
     # (the block for Companion comes with the package for Python)
     (cd -- "$top/share" && find . -path ./gnuradio -prune -o -type f -print) >"$room/files"
     while IFS= read -r file; do
@@ -31,12 +32,14 @@ install_puts_all_in_place() {
     done <"$room/files"
     brings share/doc/magbelu/FILES.md "$top/docs/user/FILES.md"
     brings share/doc/magbelu/examples/echo/graph.toml "$top/examples/echo/graph.toml"
-    [[ -x $elsewhere/a\ prefix/share/doc/magbelu/examples/signal/make.py ]] || wrong "--install brings a script of the examples that cannot be called"
+    [[ -x $elsewhere/a\ prefix/share/doc/magbelu/examples/signal/make.py ]] ||
+        wrong "--install brings a script of the examples that cannot be called"
     calls 0 env PATH="$room/tools" "$elsewhere/a prefix/bin/flow" by itself
     writes output "built: by,itself"
     if python3 -c 'import yaml' 2>/dev/null; then
         calls 0 "$elsewhere/a prefix/bin/flow-from-grc" "$top/examples/grc/rates.grc"
-        cmp -s "$room/output" "$top/examples/grc/rates.toml" || wrong "flow-from-grc as --install brings it writes something else"
+        cmp -s "$room/output" "$top/examples/grc/rates.toml" ||
+            wrong "flow-from-grc as --install brings it writes something else"
     fi
     calls 0 env HOME="$room/home" ./build_by_link --install
     [[ -x $room/home/.local/bin/flow ]] || wrong "--install without a prefix brings nothing to ~/.local"
@@ -61,7 +64,8 @@ install_brings_the_library_for_c() {
         calls 0 env PKG_CONFIG_PATH="$lib/pkgconfig" pkg-config --cflags --libs magbelu
         # (a shell that reads this has two words)
         eval "set -- $(<"$room/output")"
-        [[ $# == 3 && $1 == "-I$elsewhere/a prefix/include" && $2 == "-L$lib" && $3 == -lmagbelu ]] || wrong "pkg-config gives other words"
+        [[ $# == 3 && $1 == "-I$elsewhere/a prefix/include" && $2 == "-L$lib" && $3 == -lmagbelu ]] ||
+            wrong "pkg-config gives other words"
         calls 0 env PKG_CONFIG_PATH="$lib/pkgconfig" pkg-config --modversion magbelu
         writes output "$(sed -n 's/^.TH FLOW 1 "" "flow \(.*\)" .*/\1/p' "$top/share/man/man1/flow.1")"
     fi
@@ -70,7 +74,8 @@ install_brings_the_library_for_c() {
         brings "$companion" "$top/$companion"
         # (beside the library, too, where Python looks into lib64 first)
         mkdir "$room/lib64"
-        printf '%s\n' "import site, sys" "sys.platlibdir = 'lib64'" "site.PREFIXES[:] = ['$elsewhere/a prefix']" >"$room/lib64/sitecustomize.py"
+        printf '%s\n' "import site, sys" "sys.platlibdir = 'lib64'" "site.PREFIXES[:] = ['$elsewhere/a prefix']" \
+            >"$room/lib64/sitecustomize.py"
         calls 0 env PYTHONPATH="$room/lib64" ./build_by_link --install "a prefix"
         is_found_by_python
     fi
@@ -95,17 +100,20 @@ print(os.path.realpath(next(filter(os.path.exists, it._places()))))'
 uninstall_takes_all_away() {
     touch "$elsewhere/a prefix/bin/other"
     calls 0 env PATH="$room/tools:/usr/bin:/bin" ./build_by_link --uninstall "a prefix"
-    cmp -s <(under_prefix) <(printf '%s\n' . ./bin ./bin/other) || wrong "--uninstall leaves $(under_prefix | paste -sd ' ')"
+    cmp -s <(under_prefix) <(printf '%s\n' . ./bin ./bin/other) ||
+        wrong "--uninstall leaves $(under_prefix | paste -sd ' ')"
     calls 1 ./build_by_link --uninstall "a prefix"
     writes errors "build: $elsewhere/a prefix has no share/magbelu/installed: ./build --install has put nothing there"
     calls 0 env HOME="$room/home" ./build_by_link --uninstall
-    [[ -z $(find "$room/home/.local" -mindepth 1) ]] || wrong "--uninstall without a prefix takes nothing away from ~/.local"
+    [[ -z $(find "$room/home/.local" -mindepth 1) ]] ||
+        wrong "--uninstall without a prefix takes nothing away from ~/.local"
 }
 
 # leaves FILE..: --uninstall leaves these files of others in bin/, which then go but for `other`
 leaves() {
     calls 0 ./build_by_link --uninstall "a prefix"
-    cmp -s <(under_prefix) <(printf '%s\n' . ./bin "${@/#/./bin/}") || wrong "--uninstall leaves $(under_prefix | paste -sd ' '), and not bin/ with $*"
+    cmp -s <(under_prefix) <(printf '%s\n' . ./bin "${@/#/./bin/}") ||
+        wrong "--uninstall leaves $(under_prefix | paste -sd ' '), and not bin/ with $*"
     find "$elsewhere/a prefix/bin" -type f ! -name other -delete
 }
 
@@ -121,7 +129,8 @@ is_refused_for() {
 # pattern, which is `place` in it
 # shellcheck disable=SC2016
 installs_beside() {
-    printf '%s\n' '#!/bin/bash' 'place=${*: -1}' "[[ \$place != $1 ]] || { $2; }" "exec $(command -v install) \"\$@\"" >"$room/bin/install"
+    printf '%s\n' '#!/bin/bash' 'place=${*: -1}' "[[ \$place != $1 ]] || { $2; }" "exec $(command -v install) \"\$@\"" \
+        >"$room/bin/install"
     chmod +x "$room/bin/install"
     calls 1 ./build_by_link --install "a prefix"
     rm "$room/bin/install"
@@ -151,7 +160,8 @@ install_replaces_nothing_of_others() {
     is_refused_for bin/flow-from-grc
     leaves flow-from-grc other
     # What comes while it copies, and what comes in the place of a copy that failed.
-    installs_beside '*/x86-64-v3/flow' 'mkdir -p "${place%/lib/*}/bin" && echo "no flow" >"${place%/lib/*}/bin/flow-from-grc"'
+    installs_beside '*/x86-64-v3/flow' \
+        'mkdir -p "${place%/lib/*}/bin" && echo "no flow" >"${place%/lib/*}/bin/flow-from-grc"'
     leaves flow-from-grc other
     installs_beside '*/bin/flow-from-grc' 'echo half >"$place"; exit 1'
     [[ ! -e $elsewhere/a\ prefix/bin/flow-from-grc ]] || wrong "--install leaves half a file"
@@ -169,24 +179,31 @@ has_files() {
     printf '%s\n' "$@" | LC_ALL=C sort >"$room/files"
     rm -rf -- "$room/unpacked"
     dpkg-deb -x "$tree/out/$package"_*.deb "$room/unpacked"
-    (cd -- "$room/unpacked" && find . ! -type d -printf '%P\n') | LC_ALL=C sort | cmp -s - "$room/files" || wrong "$package has other files"
-    [[ -z $(dpkg-deb -c "$tree/out/$package"_*.deb | grep -v ' root/root ') ]] || wrong "$package has files that are not root's"
+    (cd -- "$room/unpacked" && find . ! -type d -printf '%P\n') | LC_ALL=C sort | cmp -s - "$room/files" ||
+        wrong "$package has other files"
+    [[ -z $(dpkg-deb -c "$tree/out/$package"_*.deb | grep -v ' root/root ') ]] ||
+        wrong "$package has files that are not root's"
 }
 
 # program_files: prints those of the package of the program, but for its documents of Debian
 program_files() {
     local it
-    printf 'usr/%s\n' lib/magbelu/x86-64-v{2,3}/flow bin/{flow-from-grc,magbelu-studio} share/man/man1/{flow{,-from-grc},magbelu-studio}.1.gz share/bash-completion/completions/flow{,-from-grc} \
+    printf 'usr/%s\n' lib/magbelu/x86-64-v{2,3}/flow bin/{flow-from-grc,magbelu-studio} \
+        share/man/man1/{flow{,-from-grc},magbelu-studio}.1.gz share/bash-completion/completions/flow{,-from-grc} \
         share/zsh/vendor-completions/_flow{,-from-grc} share/fish/vendor_completions.d/flow{,-from-grc}.fish
     (cd -- "$top/python" && find flow_from_grc -name '*.py' -printf 'usr/share/magbelu/%p\n')
     # (dpkg wants long pages compressed, but for examples and pictures)
-    printf 'usr/share/doc/magbelu/%s\n' {C,COMMANDS,COVERAGE,FILES,FOR_GNU_RADIO_USERS,GLOSSARY,KINDS,REFUSALS,SPEED,STUDIO,TUTORIAL}.md.gz {echo,trace}.svg studio_{file,signal}.png \
+    printf 'usr/share/doc/magbelu/%s\n' \
+        {C,COMMANDS,COVERAGE,FILES,FOR_GNU_RADIO_USERS,GLOSSARY,KINDS,REFUSALS,SPEED,STUDIO,TUTORIAL}.md.gz \
+        {echo,trace}.svg studio_{file,signal}.png \
         tutorial_{step_{1,2,3,4,5,6},filter,frequency,levels,frames,text,errors}.svg
-    (cd -- "$top" && find examples \( -path examples/embed -o -path examples/own_block -o -path examples/pipeline \) -prune -o -type f ! -name '*.pyc' -printf 'usr/share/doc/magbelu/%p\n')
+    (cd -- "$top" && find examples \( -path examples/embed -o -path examples/own_block -o -path examples/pipeline \) \
+        -prune -o -type f ! -name '*.pyc' -printf 'usr/share/doc/magbelu/%p\n')
 }
 
 # says PACKAGE FIELD TEXT: its control file
-says() { [[ $(dpkg-deb -f "$tree/out/$1"_*.deb "$2") == "$3" ]] || wrong "$1 has another $2: $(dpkg-deb -f "$tree/out/$1"_*.deb "$2")"; }
+says() { [[ $(dpkg-deb -f "$tree/out/$1"_*.deb "$2") == "$3" ]] ||
+    wrong "$1 has another $2: $(dpkg-deb -f "$tree/out/$1"_*.deb "$2")"; }
 
 # package_chooses: the scripts of the package set Debian's alternatives for the processors that the loader says the
 # machine has, and take both away
@@ -219,21 +236,26 @@ deb_makes_packages() {
     mkdir -p "$tree/out"
     touch "$tree/out/magbelu_0.0.1_amd64.deb"
     calls 0 ./build_by_link --deb
-    [[ $(cd -- "$tree/out" && echo *) == "libmagbelu-dev_${version}_amd64.deb libmagbelu1_${version}_amd64.deb magbelu_${version}_amd64.deb python3-magbelu_${version}_all.deb" ]] ||
+    [[ $(cd -- "$tree/out" && echo *) \
+        == "libmagbelu-dev_${version}_amd64.deb libmagbelu1_${version}_amd64.deb magbelu_${version}_amd64.deb python3-magbelu_${version}_all.deb" ]] ||
         wrong "--deb makes other packages"
     has_files libmagbelu1 "$lib"/{,glibc-hwcaps/x86-64-v3/}libmagbelu.so.1
     cmp -s "$room/unpacked/$lib/libmagbelu.so.1" "$built/libmagbelu.so" || wrong "the package has another library"
     says libmagbelu1 Depends libc6
-    has_files libmagbelu-dev usr/include/magbelu.h{,pp} "$lib"/{libmagbelu.a,libmagbelu.so,pkgconfig/magbelu.pc} usr/share/doc/libmagbelu-dev/C.md.gz
+    has_files libmagbelu-dev usr/include/magbelu.h{,pp} "$lib"/{libmagbelu.a,libmagbelu.so,pkgconfig/magbelu.pc} \
+        usr/share/doc/libmagbelu-dev/C.md.gz
     grep -qx "prefix=/usr" "$room/unpacked/$lib/pkgconfig/magbelu.pc" || wrong "magbelu.pc has another prefix"
     says libmagbelu-dev Depends "libmagbelu1 (= $version), libc6-dev"
-    mapfile -t files < <(cd -- "$top/python/magbelu" && find . -type f ! -name '*.pyc' -printf 'usr/lib/python3/dist-packages/magbelu/%P\n')
+    mapfile -t files < <(cd -- "$top/python/magbelu" &&
+        find . -type f ! -name '*.pyc' -printf 'usr/lib/python3/dist-packages/magbelu/%P\n')
     has_files python3-magbelu "${files[@]}" "usr/$companion" usr/share/doc/python3-magbelu/C.md.gz
     says python3-magbelu Depends "libmagbelu1 (>= $version), python3:any (>= 3.9)"
     mapfile -t files < <(program_files)
     has_files magbelu "${files[@]}"
     says magbelu Depends "libc6, python3:any (>= 3.9), python3-yaml"
-    [[ $("$room/unpacked/usr/lib/magbelu/x86-64-v2/flow" a b) == "built: a,b" ]] || wrong "the package has another program"
-    gzip -dc "$room/unpacked/usr/share/man/man1/flow.1.gz" | cmp -s - "$top/share/man/man1/flow.1" || wrong "the package has another man page"
+    [[ $("$room/unpacked/usr/lib/magbelu/x86-64-v2/flow" a b) == "built: a,b" ]] ||
+        wrong "the package has another program"
+    gzip -dc "$room/unpacked/usr/share/man/man1/flow.1.gz" | cmp -s - "$top/share/man/man1/flow.1" ||
+        wrong "the package has another man page"
     package_chooses
 }

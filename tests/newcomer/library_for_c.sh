@@ -17,8 +17,10 @@ build_makes_the_library_for_c() {
     begin_anew
     calls 0 ./build_by_link --c
     proved "${own[@]}"
-    cmp -s "$built/glibc-hwcaps/x86-64-v3/libmagbelu.so" "$built/libmagbelu.so" || wrong "there is no shared library for x86-64-v3"
-    cmp -s "$built/libmagbelu.a" <(printf '%s\n' whole "the C of the heap" "the C of the system") || wrong "libmagbelu.a is not all that it stands on"
+    cmp -s "$built/glibc-hwcaps/x86-64-v3/libmagbelu.so" "$built/libmagbelu.so" ||
+        wrong "there is no shared library for x86-64-v3"
+    cmp -s "$built/libmagbelu.a" <(printf '%s\n' whole "the C of the heap" "the C of the system") ||
+        wrong "libmagbelu.a is not all that it stands on"
     cmp -s "$built/libmagbelu.so" "$built/libmagbelu.a" || wrong "libmagbelu.so is not made of libmagbelu.a"
     calls 0 ./build_by_link --c
     proved "${own[@]}"

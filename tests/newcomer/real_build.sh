@@ -98,8 +98,10 @@ vendored_program_runs() {
     sed -n '/^```$/,/^```$/{//d;p}' "$tree/docs/user/EMBED.md" >"$room/shown"
     # (the check for a hint would take as long again)
     calls 0 env PATH="$top/tests/no_hint:$PATH" bash -euc "$(sed -n 's/^\$ //p' "$room/shown")"
-    grep -v '^\$ ' "$room/shown" | cmp -s - "$top/examples/embed/stdout" || wrong "docs/user/EMBED.md shows something else than the program prints"
+    grep -v '^\$ ' "$room/shown" | cmp -s - "$top/examples/embed/stdout" ||
+        wrong "docs/user/EMBED.md shows something else than the program prints"
     for it in 1 2; do
-        grep -qxF -- "$(sed -n "${it}p" "$top/examples/embed/stdout")" "$room/output" || wrong "the program prints something else"
+        grep -qxF -- "$(sed -n "${it}p" "$top/examples/embed/stdout")" "$room/output" ||
+            wrong "the program prints something else"
     done
 }

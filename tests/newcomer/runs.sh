@@ -56,11 +56,14 @@ failures_pass_on() {
 limits_are_told() {
     local told
     echo 6 >"$room/bin/no_answer"
-    for told in "did not end within the time limit=60 seconds" "wrote more than 1048576 bytes to standard output or to standard error, the limit on each=1 MiB of output"; do
-        printf '%s\n' "a line of the program" "interpreter: no-answer: the run did not finish within 20000000 steps: the program may loop forever" \
+    for told in "did not end within the time limit=60 seconds" \
+        "wrote more than 1048576 bytes to standard output or to standard error, the limit on each=1 MiB of output"; do
+        printf '%s\n' "a line of the program" \
+            "interpreter: no-answer: the run did not finish within 20000000 steps: the program may loop forever" \
             "checked: no-answer: the program ${told%=*}" >"$room/bin/says"
         calls 125 ./flow_by_link run no/such
-        writes errors "$unproved" "a line of the program" "flow: the run unproved was stopped at its limit of ${told#*=}: ./build builds the program, which has none"
+        writes errors "$unproved" "a line of the program" \
+            "flow: the run unproved was stopped at its limit of ${told#*=}: ./build builds the program, which has none"
     done
     rm "$room"/bin/{says,no_answer}
 }
@@ -74,7 +77,8 @@ terminals_show_places() {
     fi
     for it in "check:check --explain" "check --explain=never:check --explain=never" "run -q:run --explain -q"; do
         calls 0 script -q -e -c "exec ./flow_by_link ${it%:*} 'a graph.toml' >'$room/words'" /dev/null </dev/null
-        grep -qx "words: ${it#*:} FILE" "$room/words" || wrong "a call of ${it%:*} on a terminal has other words: $(head -n 1 "$room/words")"
+        grep -qx "words: ${it#*:} FILE" "$room/words" ||
+            wrong "a call of ${it%:*} on a terminal has other words: $(head -n 1 "$room/words")"
     done
 }
 

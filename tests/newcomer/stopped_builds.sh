@@ -8,8 +8,10 @@ fails_at() {
     calls 1 ./build_by_link
     grep -qF " $tree/crates/$1/out/build.log " "$room/errors" || wrong "a failed ./build names no file"
     grep -qx "$2" "$tree/crates/$1/out/build.log" || wrong "that file has not what the prover says"
-    grep -qx "build: failed at $1: the program is not built" "$room/errors" || wrong "a failed ./build does not say so at its end"
-    ! grep -rqsx --include=made --include="$program_crate*" half "$tree/crates/"*/out || wrong "a failed ./build leaves half of a file"
+    grep -qx "build: failed at $1: the program is not built" "$room/errors" ||
+        wrong "a failed ./build does not say so at its end"
+    ! grep -rqsx --include=made --include="$program_crate*" half "$tree/crates/"*/out ||
+        wrong "a failed ./build leaves half of a file"
     calls 127 env PATH="$room/tools" ./flow_by_link "a failed build"
 }
 

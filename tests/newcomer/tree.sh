@@ -7,8 +7,9 @@ tree="$room/a checkout"
 elsewhere=$room/elsewhere
 own=$tree/crates/$program_crate
 built=$tree${program#"$top"}
-unproved="flow: not built from these sources yet: running it unproved, which compiles it each time; ./build proves and builds it once, in some $build_minutes minutes"
-beside="flow: files of raw items and traces are for the built program alone: ./build proves and builds it once, in some $build_minutes minutes"
+later="./build proves and builds it once, in some $build_minutes minutes"
+unproved="flow: not built from these sources yet: running it unproved, which compiles it each time; $later"
+beside="flow: files of raw items and traces are for the built program alone: $later"
 lacks="there is no rt in PATH: it is the command of the Rattle toolchain, which proves and compiles this repository"
 
 # wrong SAYING: ends the part, since each case goes on from where the one before it left off
@@ -67,7 +68,8 @@ copy_tree() {
 # Links to all commands that the scripts call, so that a PATH of these alone has no rt.
 link_tools() {
     local it
-    for it in bash env readlink dirname find cat head tail grep wc mktemp rm cp mv mkdir touch sort cut nproc awk flock xargs sha256sum; do
+    for it in bash env readlink dirname find cat head tail grep wc mktemp rm cp mv mkdir touch sort cut nproc awk \
+        flock xargs sha256sum; do
         ln -s "$(command -v "$it")" "$room/tools/$it"
     done
 }

@@ -9,17 +9,20 @@ refuses() {
     (cd -- "$mine" && find . -type f -exec sha256sum {} + | LC_ALL=C sort) >"$room/before"
     calls 1 "$tree/scripts/vendor.sh" mine
     writes errors "vendor: $1"
-    (cd -- "$mine" && find . -type f -exec sha256sum {} + | LC_ALL=C sort) | cmp -s - "$room/before" || wrong "vendor.sh changes something, and refuses"
+    (cd -- "$mine" && find . -type f -exec sha256sum {} + | LC_ALL=C sort) | cmp -s - "$room/before" ||
+        wrong "vendor.sh changes something, and refuses"
 }
 
 # has_crates CRATE..: the repository has these crates of the checkout and no others, as they are there, with their lines
 has_crates() {
     local it part
-    cmp -s <(printf '%s\n' "$@" | LC_ALL=C sort) <(cd -- "$mine/crates" && ls) || wrong "vendor.sh brings $(cd -- "$mine/crates" && echo *), and not: $*"
+    cmp -s <(printf '%s\n' "$@" | LC_ALL=C sort) <(cd -- "$mine/crates" && ls) ||
+        wrong "vendor.sh brings $(cd -- "$mine/crates" && echo *), and not: $*"
     for it; do
         grep -qxF -- "$(grep "^$it:" "$tree/crates.txt")" "$mine/crates.txt" || wrong "vendor.sh brings no line of $it"
         cmp -s <(cd -- "$mine/crates/$it" && find . -mindepth 1 -maxdepth 1 | LC_ALL=C sort) \
-            <(cd -- "$tree/crates/$it" && find ./src ./specs ./proofs -maxdepth 0 2>/dev/null | LC_ALL=C sort) || wrong "vendor.sh brings other folders of $it"
+            <(cd -- "$tree/crates/$it" && find ./src ./specs ./proofs -maxdepth 0 2>/dev/null | LC_ALL=C sort) ||
+            wrong "vendor.sh brings other folders of $it"
         for part in "$mine/crates/$it"/*; do
             diff -r "$part" "$tree/crates/$it/${part##*/}" >"$room/said" || wrong "vendor.sh brings another $it"
         done

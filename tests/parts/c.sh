@@ -21,7 +21,8 @@ wrong() {
 
 # compiles_header: as C99 and as C++, with all warnings
 compiles_header() {
-    printf '#include "magbelu.h"\nint main(void) { return (int)magbelu_version() - MAGBELU_VERSION; }\n' >"$room/header.c"
+    printf '#include "magbelu.h"\nint main(void) { return (int)magbelu_version() - MAGBELU_VERSION; }\n' \
+        >"$room/header.c"
     cc -std=c99 "${warnings[@]}" -I"$top/c" -c "$room/header.c" -o "$room/header.o"
     if command -v c++ >/dev/null; then
         c++ -x c++ -std=c++11 "${warnings[@]}" -I"$top/c" -c "$room/header.c" -o "$room/header.o"
@@ -33,7 +34,8 @@ calls() {
     local wanted=$1 status=0
     shift
     "$calls" "$@" >"$room/output" 2>"$room/errors" || status=$?
-    [[ $status == "$wanted" ]] || wrong "${calls##*/} $*: status $status in place of $wanted: $(head -n 5 "$room/errors")"
+    [[ $status == "$wanted" ]] ||
+        wrong "${calls##*/} $*: status $status in place of $wanted: $(head -n 5 "$room/errors")"
 }
 
 # as_flow WORD.. FILE: the call just made wrote what ./flow writes with these words, where that is built, but for the
@@ -85,7 +87,8 @@ graph() {
 # chain TYPE VALUE: writes the file of a graph that adds this number to each item of a type
 chain() {
     cat >"$room/chain.toml" <<END
-block = [{ name = "src", kind = "vector_source", type = "$1" }, { name = "add", kind = "add_const", type = "$1", value = $2 },
+block = [{ name = "src", kind = "vector_source", type = "$1" },
+    { name = "add", kind = "add_const", type = "$1", value = $2 },
     { name = "out", kind = "vector_sink", type = "$1" }]
 connect = [{ from = "src", to = "add" }, { from = "add", to = "out" }]
 END
@@ -121,19 +124,22 @@ files() {
 
 # tells_calls: the calls from C
 tells_calls() {
-    cc -std=c99 "${warnings[@]}" "${sanitizers[@]}" -pthread -I"$top/c" "$top"/tests/c/{calls,plants,streams,slices,kernels}.c "$c_folder/libmagbelu.a" -o "$calls"
+    cc -std=c99 "${warnings[@]}" "${sanitizers[@]}" -pthread -I"$top/c" \
+        "$top"/tests/c/{calls,plants,streams,slices,kernels}.c "$c_folder/libmagbelu.a" -o "$calls"
     calls 0 wrong
     calls 0 held
     files
     raw_items
     first_program "$top/docs/user/C.md" >"$room/page.c"
     cc -std=c99 "${warnings[@]}" "${sanitizers[@]}" -I"$top/c" "$room/page.c" "$c_folder/libmagbelu.a" -o "$room/page"
-    "$room/page" <"$top/examples/echo/graph.toml" | cmp -s - "$top/examples/echo/expected_run" || wrong "the program of docs/user/C.md"
+    "$room/page" <"$top/examples/echo/graph.toml" | cmp -s - "$top/examples/echo/expected_run" ||
+        wrong "the program of docs/user/C.md"
 }
 
 # tells_spoken: a stream that two threads call under a lock, with the thread sanitizer
 tells_spoken() {
-    cc -std=c99 "${warnings[@]}" -g -fsanitize=thread -pthread -I"$top/c" "$top/tests/c/spoken.c" "$c_folder/libmagbelu.a" -o "$room/spoken"
+    cc -std=c99 "${warnings[@]}" -g -fsanitize=thread -pthread -I"$top/c" "$top/tests/c/spoken.c" \
+        "$c_folder/libmagbelu.a" -o "$room/spoken"
     "$room/spoken"
 }
 
@@ -146,7 +152,8 @@ plus_page() {
     sed -n '/^```cpp$/,/^```$/{//d;p}' "$top/docs/user/C.md" >"$room/page.cpp"
     compile_plus "$room/page_plus" "$room/page.cpp" "$1"
     chain byte 10
-    "$room/page_plus" <"$room/chain.toml" | cmp -s - <(printf '%s\n' 4 11 102 103) || wrong "the program in C++ of docs/user/C.md"
+    "$room/page_plus" <"$room/chain.toml" | cmp -s - <(printf '%s\n' 4 11 102 103) ||
+        wrong "the program in C++ of docs/user/C.md"
 }
 
 # tells_plus_alone: what c/magbelu.hpp makes of its arguments and of answers
@@ -176,14 +183,18 @@ without_numpy() {
     PYTHONDONTWRITEBYTECODE=1 PYTHONPATH=$room/hidden:$top/python python3 "$top/tests/c/$1.py" "$top"
 }
 
-# tells_threads: what threads of Python do with one stream, with the thread sanitizer, over what stands for the library, since the library is not compiled for it
+# tells_threads: what threads of Python do with one stream, with the thread sanitizer, over what stands for the library,
+# since the library is not compiled for it
 tells_threads() {
     # (what a stream does not call has to be there)
     printf 'extern "C" unsigned magbelu_version() { return 1; }\n' >"$room/others.cpp"
     printf 'extern "C" void magbelu_bytes_%s() {}\n' check run script run_items >>"$room/others.cpp"
-    c++ -std=c++17 "${warnings[@]}" -g -O1 -fPIC -shared -fsanitize=thread -I"$top/c" "$top/tests/c/stand_in.cpp" "$room/others.cpp" -o "$room/stand_in.so"
-    # (of a program that is not compiled for it, the sanitizer has to be there first, and wants addresses as they come; the shims of pyenv are no program)
-    PYTHONDONTWRITEBYTECODE=1 PYTHONPATH=$top/python MAGBELU_LIBRARY=$room/stand_in.so LD_PRELOAD=$(cc -print-file-name=libtsan.so) TSAN_OPTIONS=exitcode=66 \
+    c++ -std=c++17 "${warnings[@]}" -g -O1 -fPIC -shared -fsanitize=thread -I"$top/c" "$top/tests/c/stand_in.cpp" \
+        "$room/others.cpp" -o "$room/stand_in.so"
+    # (of a program that is not compiled for it, the sanitizer has to be there first, and wants addresses as they come;
+    # the shims of pyenv are no program)
+    PYTHONDONTWRITEBYTECODE=1 PYTHONPATH=$top/python MAGBELU_LIBRARY=$room/stand_in.so \
+        LD_PRELOAD=$(cc -print-file-name=libtsan.so) TSAN_OPTIONS=exitcode=66 \
         setarch --addr-no-randomize "$(python3 -c 'import sys; print(sys.executable)')" "$top/tests/c/threads.py" "$top"
 }
 
@@ -192,15 +203,18 @@ over_library() { MAGBELU_LIBRARY=$c_folder/libmagbelu.so "$@"; }
 
 # tells_types: the type hints, and a program that goes by them
 tells_types() {
-    MYPYPATH=$top/python mypy --strict --ignore-missing-imports --cache-dir "$room/mypy" "$top/python/magbelu" "$top/examples/python/whistle.py"
+    MYPYPATH=$top/python mypy --strict --ignore-missing-imports --cache-dir "$room/mypy" "$top/python/magbelu" \
+        "$top/examples/python/whistle.py"
 }
 
 # tells_notebook: examples/python prints what its page shows, and makes its picture
 tells_notebook() {
     cd -- "$room"
-    PYTHONDONTWRITEBYTECODE=1 MPLBACKEND=Agg PYTHONPATH=$top/python python3 "$top/examples/python/whistle.py" >"$room/output"
+    PYTHONDONTWRITEBYTECODE=1 MPLBACKEND=Agg PYTHONPATH=$top/python python3 "$top/examples/python/whistle.py" \
+        >"$room/output"
     # shellcheck disable=SC2016
-    sed -n '/^\$ /,/^```$/{//d;p}' "$top/examples/python/README.md" | cmp -s - "$room/output" || wrong "it prints $(<"$room/output")"
+    sed -n '/^\$ /,/^```$/{//d;p}' "$top/examples/python/README.md" | cmp -s - "$room/output" ||
+        wrong "it prints $(<"$room/output")"
     [[ $(head -c 4 whistle.png | tail -c 3) == PNG ]] || wrong "there is no picture"
 }
 
@@ -215,7 +229,8 @@ list() {
         printf 'c/%s\n' plus_alone plus
     fi
     if command -v cc >/dev/null && command -v python3 >/dev/null; then
-        printf 'c/%s\n' threads python python_numpy python_streams python_streams_numpy python_threads python_slices python_slices_numpy doctests doctests_matplotlib notebook
+        printf 'c/%s\n' threads python python_numpy python_streams python_streams_numpy python_threads python_slices \
+            python_slices_numpy doctests doctests_matplotlib notebook
     fi
 }
 
@@ -242,7 +257,8 @@ lacks() {
     local it
     for it; do
         case $it in
-        libtsan.so) [[ $(cc -print-file-name=libtsan.so) == /* ]] && command -v c++ >/dev/null && command -v setarch >/dev/null || echo "there is no thread sanitizer" ;;
+        libtsan.so) [[ $(cc -print-file-name=libtsan.so) == /* ]] && command -v c++ >/dev/null &&
+            command -v setarch >/dev/null || echo "there is no thread sanitizer" ;;
         libmagbelu.*) is_fresh "$c_folder/$it" "$c_crate" || echo "./build --c has not built $it from these sources" ;;
         mypy) command -v mypy >/dev/null || echo "there is no mypy" ;;
         *) python3 -c "import $it" 2>/dev/null || echo "python3 has no module $it" ;;

@@ -23,15 +23,18 @@ source "$top/tests/parts/received.sh"
 # Of each case the folder that describes it.
 declare -A folder_of=()
 # One that is no call with an input that is there: the program answers a producer that waits for it.
-pipes=(pipes/slow_producer pipes/slow_producer_in_pieces pipes/fifos_in_pieces pipes/slow_marks_in_pieces pipes/memory_of_pieces)
+pipes=(pipes/slow_producer pipes/slow_producer_in_pieces pipes/fifos_in_pieces pipes/slow_marks_in_pieces
+    pipes/memory_of_pieces)
 # Calls whose standard error is a terminal, which the command `script` makes.
 terminals=(terminals/explains terminals/never terminals/place)
 # What a program of Python asks, that has names of GNU Radio from flow-from-grc.
 names=(names/gnu_radio)
 # And live runs between pipes, with lines that are written while items stream.
-spoken=(spoken/settings spoken/stop spoken/killed spoken/closes spoken/lines spoken/standard spoken/two spoken/soon spoken/long spoken/gone spoken/readme spoken/drawn)
+spoken=(spoken/settings spoken/stop spoken/killed spoken/closes spoken/lines spoken/standard spoken/two spoken/soon
+    spoken/long spoken/gone spoken/readme spoken/drawn)
 # And runs whose trace a program of Python reads.
-traces=(traces/adaptive traces/one_thread traces/thread_per_block traces/between_files traces/now_and_then traces/first_events traces/picture traces/part_of_a_picture)
+traces=(traces/adaptive traces/one_thread traces/thread_per_block traces/between_files traces/now_and_then
+    traces/first_events traces/picture traces/part_of_a_picture)
 
 # add CASE FOLDER: the case, and the runs of a run on one thread and in one for each block
 add() {
@@ -41,7 +44,8 @@ add() {
     if [[ -e $2/args ]]; then
         mapfile -t words <"$2/args"
     fi
-    if [[ ${words[0]-} == run && " ${words[*]} " != *" --one-thread "* && " ${words[*]} " != *" --thread-per-block "* && " ${words[*]} " != *" --jobs "* ]]; then
+    if [[ ${words[0]-} == run && " ${words[*]} " != *" --one-thread "* &&
+        " ${words[*]} " != *" --thread-per-block "* && " ${words[*]} " != *" --jobs "* ]]; then
         folder_of[$1/one_thread]=$2
         echo "$1/one_thread"
         # (between raw files it is refused)
@@ -63,7 +67,8 @@ list() {
     for folder in "${made[@]}"; do
         add "$folder" "$1/$folder"
     done
-    printf '%s\n' "${pipes[@]}" "${terminals[@]}" "${names[@]}" "${sliced[@]/#/slices/}" "${spoken[@]}" "${traces[@]}" "${redirected[@]/#/redirected/}" "${silent[@]/#/silent/}" "${clustered[@]/#/cluster/}" \
+    printf '%s\n' "${pipes[@]}" "${terminals[@]}" "${names[@]}" "${sliced[@]/#/slices/}" "${spoken[@]}" "${traces[@]}" \
+        "${redirected[@]/#/redirected/}" "${silent[@]/#/silent/}" "${clustered[@]/#/cluster/}" \
         "${received[@]/#/receiver/}"
 }
 
@@ -89,7 +94,8 @@ file_of() { [[ -e $1/$2 ]] && echo "$1/$2" || echo /dev/null; }
 
 # build: the program, unproved
 build() {
-    build_copy "$top/crates/$program_crate" -- run --one-thread -i from=program -o "to=$room/program" "$top/tests/parts/copy.toml"
+    build_copy "$top/crates/$program_crate" -- run --one-thread -i from=program -o "to=$room/program" \
+        "$top/tests/parts/copy.toml"
 }
 
 # without TEXT: standard input, but for this text
@@ -111,7 +117,8 @@ call() {
         words=("${words[0]}" --thread-per-block "${words[@]:1}")
     fi
     mkdir -p "$came/here"
-    (cd -- "$came/here" && exec env -i timeout 60 "${start[@]}" "${words[@]}") <"$(file_of "$folder" stdin)" >"$came/stdout" 2>"$came/errors" || status=$?
+    (cd -- "$came/here" && exec env -i timeout 60 "${start[@]}" "${words[@]}") <"$(file_of "$folder" stdin)" \
+        >"$came/stdout" 2>"$came/errors" || status=$?
     echo "$status" >"$came/status"
     # (a path is shown as the case names it)
     without "$folder/" <"$came/errors" | without "$top/" >"$came/stderr"
@@ -204,7 +211,8 @@ pipes_fifos_in_pieces() {
     head -c "$count" /dev/zero | tr '\0' '\1' >"$folder/right"
     python3 "$top/tests/programs/in_turn.py" 30000 "$folder/left" "$folder/a" "$folder/right" "$folder/b" &
     cat "$folder/sum" >"$folder/came" &
-    (cd -- "$folder" && timeout 120 "${start[@]}" run --jobs 3 -i s=a -i t=b -o out=sum "$top/tests/graphs/two_sources.toml") >"$folder/report" 2>&1 || return
+    (cd -- "$folder" && timeout 120 "${start[@]}" run --jobs 3 -i s=a -i t=b -o out=sum \
+        "$top/tests/graphs/two_sources.toml") >"$folder/report" 2>&1 || return
     wait
     differs stdout <(printf 'sink out %d\ndone\n' "$count") "$folder/report" || return
     # (each byte is one more)
@@ -217,7 +225,8 @@ pipes_slow_marks_in_pieces() {
     mkdir "$folder"
     mkfifo "$folder/marks" "$folder/tags"
     head -c 100000 /dev/zero >"$folder/in"
-    (cd -- "$folder" && timeout 60 "${start[@]}" run --jobs 2 -i src=in --marks src=marks -o out=/dev/null --tags out=tags "$top/tests/graphs/plain.toml") >"$folder/report" 2>&1 &
+    (cd -- "$folder" && timeout 60 "${start[@]}" run --jobs 2 -i src=in --marks src=marks -o out=/dev/null \
+        --tags out=tags "$top/tests/graphs/plain.toml") >"$folder/report" 2>&1 &
     exec 7>"$folder/marks" 8<"$folder/tags"
     printf '@1:a=1\n@90000:b=2\n' >&7
     IFS= read -r -t 30 -u 8 answer || answer=none
@@ -243,7 +252,10 @@ on_terminal() {
 }
 
 # A refusal is explained on a terminal, but where the words say no.
-terminals_explains() { on_terminal $'flow: refused 51 Read no/such/file\n --> no/such/file: No such file or directory (os error 2)' run no/such/file; }
+terminals_explains() {
+    on_terminal $'flow: refused 51 Read no/such/file\n --> no/such/file: No such file or directory (os error 2)' \
+        run no/such/file
+}
 terminals_never() { on_terminal 'flow: refused 51 Read no/such/file' run --explain=never no/such/file; }
 terminals_place() {
     printf '[[block]]\nname = "a"\nkind = "add_cnst"\n' >"$room/place.toml"
@@ -271,7 +283,8 @@ spoken_in() {
 traced() {
     local most=$1
     shift
-    "${start[@]}" run --stats=json --trace "$room/trace" --trace-size "$most" "$@" "$top/tests/graphs/traced.toml" >"$room/report" 2>"$room/times" || return
+    "${start[@]}" run --stats=json --trace "$room/trace" --trace-size "$most" "$@" "$top/tests/graphs/traced.toml" \
+        >"$room/report" 2>"$room/times" || return
     differs stdout <(echo 'done') "$room/report" || return
     said=$(head -n -1 "$room/times")
     python3 "$top/tests/programs/trace.py" "$room/trace" "$room/times" "$most"
@@ -293,11 +306,14 @@ traces_thread_per_block() { has_all --thread-per-block; }
 
 # traces_between_files: a run that takes its items from a pipe, and writes them to a file
 traces_between_files() {
-    head -c 100000 /dev/zero | "${start[@]}" run --stats=json --trace "$room/trace" -i src=- -o out="$room/items" "$top/tests/graphs/plain.toml" >"$room/report" 2>"$room/times" || return
+    head -c 100000 /dev/zero | "${start[@]}" run --stats=json --trace "$room/trace" -i src=- -o out="$room/items" \
+        "$top/tests/graphs/plain.toml" >"$room/report" 2>"$room/times" || return
     differs stdout <(printf 'sink out 100000\ndone\n') "$room/report" || return
     differs items <(head -c 100000 /dev/zero | tr '\0' '\n') "$room/items" || return
     python3 "$top/tests/programs/trace.py" "$room/trace" "$room/times" 1000000 || return
-    python3 -c 'import json, sys; print(*[(it["name"], it["firings"]) for it in json.load(open(sys.argv[1]))["blocks"]])' "$room/times" >"$room/firings" || return
+    python3 -c 'import json, sys
+print(*[(it["name"], it["firings"]) for it in json.load(open(sys.argv[1]))["blocks"]])' "$room/times" \
+        >"$room/firings" || return
     differs firings <(echo "('src', 100000) ('a', 100000) ('out', 100000)") "$room/firings"
 }
 
@@ -307,11 +323,13 @@ traces_now_and_then() {
     for _ in 1 2 3; do
         head -c 1000 /dev/zero
         sleep 1.2
-    done | "${start[@]}" run --stats=json --stats-every 1 -i src=- -o out=/dev/null "$top/tests/graphs/plain.toml" >"$room/report" 2>"$room/times" || return
+    done | "${start[@]}" run --stats=json --stats-every 1 -i src=- -o out=/dev/null "$top/tests/graphs/plain.toml" \
+        >"$room/report" 2>"$room/times" || return
     python3 - "$room/times" <<'END'
 import json, sys
 told = [json.loads(line)["blocks"][0]["firings"] for line in open(sys.argv[1])]
-sys.exit(None if len(told) > 1 and told == sorted(told) and told[0] > 0 and told[-1] == 3000 else f"the firings that were told: {told}")
+grows = len(told) > 1 and told == sorted(told) and told[0] > 0 and told[-1] == 3000
+sys.exit(None if grows else f"the firings that were told: {told}")
 END
 }
 
@@ -321,7 +339,8 @@ traces_first_events() {
     traced 20 --one-thread || return
     left_out=$(sed -n 's/.*"left_out":\([0-9]*\)}}$/\1/p' "$room/trace")
     count=$((left_out + 20))
-    if [[ $left_out -lt 100 || $said != "flow: trace: the last $left_out of $count turns and waits are left out" ]]; then
+    if [[ $left_out -lt 100 ||
+        $said != "flow: trace: the last $left_out of $count turns and waits are left out" ]]; then
         echo "standard error: $left_out are left out, and before the times came: $said"
         return 1
     fi

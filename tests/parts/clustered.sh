@@ -137,7 +137,8 @@ joins() { well "$@" 8 graph recording joined "${words[@]}" && cmp joined wanted 
 # joins_and_refuses COMMAND..: the same; called once more it is refused, since the parts are there; and it makes nothing
 # of a graph that is not cut
 joins_and_refuses() {
-    joins "$@" && badly "$@" 8 graph recording joined && badly "$@" 8 "$top/examples/signal/graph.toml" recording uncut || return
+    joins "$@" && badly "$@" 8 graph recording joined &&
+        badly "$@" 8 "$top/examples/signal/graph.toml" recording uncut || return
     holds "nothing is made of a graph that is not cut" [ ! -e uncut ]
 }
 
@@ -186,7 +187,8 @@ slice_at_work_twice() {
     mkdir joined.parts
     HELD=$here/goes_on begin first timeout 300 "$cluster/slice.sh" graph recording joined 8 3
     first=$!
-    await 60 eval 'is_third joined.parts/unfinished.3*' && KILLED=$here/killed KILLS=1 badly "$cluster/slice.sh" graph recording joined 8 3 || return
+    await 60 eval 'is_third joined.parts/unfinished.3*' &&
+        KILLED=$here/killed KILLS=1 badly "$cluster/slice.sh" graph recording joined 8 3 || return
     holds "slice 3 was killed" [ -d killed ] && touch goes_on && wait "$first" && is_third joined.parts/part.3
 }
 
@@ -194,8 +196,10 @@ slice_at_work_twice() {
 failed_slice() {
     mkdir joined.parts
     KILLED=$here/killed KILLS=0 badly "$cluster/slice.sh" graph recording joined 8 3 || return
-    holds "slice 3 was killed" [ -d killed ] && badly "$cluster/slice.sh" "$top/examples/signal/graph.toml" recording joined 8 1 || return
-    holds "the slice is refused" grep -q '^flow: refused 64 NoCut ' said && holds "nothing is left" [ -z "$(ls -A joined.parts)" ] && third_of_eight
+    holds "slice 3 was killed" [ -d killed ] &&
+        badly "$cluster/slice.sh" "$top/examples/signal/graph.toml" recording joined 8 1 || return
+    holds "the slice is refused" grep -q '^flow: refused 64 NoCut ' said &&
+        holds "nothing is left" [ -z "$(ls -A joined.parts)" ] && third_of_eight
 }
 
 # without one of the parts nothing is joined, and a file that is there stays as it is
@@ -203,7 +207,8 @@ missing_part() {
     mkdir joined.parts
     echo before >joined
     touch joined.parts/part.{1,2,3,4,6,7,8}
-    badly "$cluster/join.sh" joined 8 && holds "the part is named" grep -q 'joined.parts/part.5 is missing$' said || return
+    badly "$cluster/join.sh" joined 8 && holds "the part is named" grep -q 'joined.parts/part.5 is missing$' said ||
+        return
     badly "$cluster/join.sh" joined 0 && holds "the file stays" [ "$(<joined)" = before ]
 }
 
@@ -215,22 +220,28 @@ by_parallel_with_a_killed_job() {
 }
 
 # dask_address: prints where the scheduler listens
-dask_address() { "$system_python" -c 'import json, sys; print(json.load(open(sys.argv[1]))["address"])' "$engine/file" 2>/dev/null; }
+dask_address() {
+    "$system_python" -c 'import json, sys; print(json.load(open(sys.argv[1]))["address"])' "$engine/file" 2>/dev/null
+}
 
 # start_dask: a scheduler and two workers on ports that the system chooses
 start_dask() {
     local at module=distributed.cli
-    begin scheduler "$system_python" -m "$module.dask_scheduler" --host 127.0.0.1 --port 0 --dashboard-address 127.0.0.1:0 --scheduler-file "$engine/file"
-    await 120 dask_address || { echo "no scheduler of Dask comes up: $(tail -n 1 "$engine/scheduler.said")" && return 1; }
+    begin scheduler "$system_python" -m "$module.dask_scheduler" --host 127.0.0.1 --port 0 \
+        --dashboard-address 127.0.0.1:0 --scheduler-file "$engine/file"
+    await 120 dask_address ||
+        { echo "no scheduler of Dask comes up: $(tail -n 1 "$engine/scheduler.said")" && return 1; }
     DASK_SCHEDULER_ADDRESS=$(dask_address)
     export DASK_SCHEDULER_ADDRESS
     for at in 1 2; do
-        begin "worker.$at" "$system_python" -m "$module.dask_worker" "$DASK_SCHEDULER_ADDRESS" --host 127.0.0.1 --no-nanny --nthreads 1 --no-dashboard --local-directory "$engine"
+        begin "worker.$at" "$system_python" -m "$module.dask_worker" "$DASK_SCHEDULER_ADDRESS" --host 127.0.0.1 \
+            --no-nanny --nthreads 1 --no-dashboard --local-directory "$engine"
     done
 }
 
 by_dask() { start_dask && joins_and_refuses "$system_python" "$cluster/by_dask.py"; }
-by_dask_with_a_killed_program() { KILLED=$here/killed KILLS=0 start_dask && with_a_kill 0 "$system_python" "$cluster/by_dask.py"; }
+by_dask_with_a_killed_program() { KILLED=$here/killed KILLS=0 start_dask &&
+    with_a_kill 0 "$system_python" "$cluster/by_dask.py"; }
 by_dask_with_a_killed_worker() {
     KILLED=$here/killed KILLS=2 start_dask && with_a_kill 2 "$system_python" "$cluster/by_dask.py" || return
     holds "the scheduler and one worker are left" [ "$(jobs -rp | wc -l)" = 2 ]
@@ -279,20 +290,26 @@ print(*(end.getsockname()[1] for end in ends))')
     chmod 600 "$engine/key"
     write_slurm_conf "${ports[@]}"
     # (others cannot reach its socket, which --force allows)
-    begin munged munged --force --foreground --key-file="$engine/key" --socket="$engine/socket" --pid-file="$engine/munged.pid" --log-file="$engine/munged.log" \
+    begin munged munged --force --foreground --key-file="$engine/key" --socket="$engine/socket" \
+        --pid-file="$engine/munged.pid" --log-file="$engine/munged.log" \
         --seed-file="$engine/seed"
-    await 20 munge --no-input --socket="$engine/socket" || { echo "no munged comes up: $(tail -n 1 "$engine/munged.said")" && return "$not_here"; }
+    await 20 munge --no-input --socket="$engine/socket" ||
+        { echo "no munged comes up: $(tail -n 1 "$engine/munged.said")" && return "$not_here"; }
     begin slurmctld slurmctld -D
     for it in one two; do
         begin "$it" slurmd -D -N "$it"
     done
-    await 60 are_idle || { echo "no cluster of Slurm comes up: $(tail -qn 1 "$engine"/{slurmctld,one,two}.said | paste -sd ,)" && return "$not_here"; }
+    await 60 are_idle || {
+        echo "no cluster of Slurm comes up: $(tail -qn 1 "$engine"/{slurmctld,one,two}.said | paste -sd ,)"
+        return "$not_here"
+    }
 }
 
 # submitted COUNT: whether so many arrays were submitted
 submitted() { holds "$1 arrays were submitted" [ "$(grep -c '^Submitted batch job ' said)" = "$1" ]; }
 
-by_slurm() { start_slurm && joins "$cluster/by_slurm.sh" && submitted 1 && badly "$cluster/by_slurm.sh" 8 graph recording joined; }
+by_slurm() { start_slurm && joins "$cluster/by_slurm.sh" && submitted 1 &&
+    badly "$cluster/by_slurm.sh" 8 graph recording joined; }
 by_slurm_with_a_killed_task() { start_slurm && with_a_kill 1 "$cluster/by_slurm.sh" && submitted 2; }
 
 # lose_node: once a slice was killed on a node, kills the daemon of this node

@@ -36,7 +36,8 @@ refuses() {
     printf '%s\n' "${whole/"$3"/"$4"}" >"$file"
     if is_proved "$1"; then
         echo "$1 is still proved with '$4' in $2"
-    elif ! grep -q '^logic=not-proved' "$room/said" || grep -qE '(is not in scope|expected the end|cannot continue)' "$room/said"; then
+    elif ! grep -q '^logic=not-proved' "$room/said" || grep -qE '(is not in scope|expected the end|cannot continue)' \
+        "$room/said"; then
         echo "the prover did not come to judge '$4' in $2:"
         cat "$room/said"
     else

@@ -9,9 +9,12 @@ set -euo pipefail
 # shellcheck source=tests/part.sh
 source "$(dirname -- "$(readlink -f -- "${BASH_SOURCE[0]}")")/../part.sh"
 
-cases=(beside_flow beside_blocks inputs_end inputs_lack graph_ends output_ends stopped tags_after_a_stop stalls refused tags tag_refused settings taps fed_by_file memory companion pages)
-own=(block_interleaver matrix_interleaver permutation patterned_interleaver stream_demux deinterleave puncture depuncture endian_swap short_to_char companding chunks encoding selector
-    sample_and_hold tag_share tag_gate delay probe_signal ccsds_encoder encoders bit_orders additive_scrambler access_code vectors)
+cases=(beside_flow beside_blocks inputs_end inputs_lack graph_ends output_ends stopped tags_after_a_stop stalls
+    refused tags tag_refused settings taps fed_by_file memory companion pages)
+own=(block_interleaver matrix_interleaver permutation patterned_interleaver stream_demux deinterleave puncture
+    depuncture endian_swap short_to_char companding chunks encoding selector
+    sample_and_hold tag_share tag_gate delay probe_signal ccsds_encoder encoders bit_orders additive_scrambler
+    access_code vectors)
 endless=(shift_registers noise_of_the_usrp waves uniform noise)
 television=(energy branches inner_coder inner_interleaver frames packet_frames)
 trellises=(encoder code viterbi_combined viterbi far)
@@ -19,11 +22,13 @@ trellises=(encoder code viterbi_combined viterbi far)
 python=$([[ -x /usr/bin/python3 ]] && echo /usr/bin/python3 || echo python3)
 export PYTHONDONTWRITEBYTECODE=1
 
-list() { printf 'gnuradio/%s\n' without_gnuradio without_library coverage modem "${own[@]/#/own/}" "${endless[@]/#/endless/}" "${television[@]/#/television/}" "${trellises[@]/#/trellises/}" "${cases[@]}"; }
+list() { printf 'gnuradio/%s\n' without_gnuradio without_library coverage modem "${own[@]/#/own/}" \
+    "${endless[@]/#/endless/}" "${television[@]/#/television/}" "${trellises[@]/#/trellises/}" "${cases[@]}"; }
 
 # lacks_gnuradio: says so where it is not here
 lacks_gnuradio() {
-    if ! "$python" -c 'from gnuradio import gr; import sys; sys.exit(not gr.version().startswith("3.10"))' 2>/dev/null; then
+    if ! "$python" -c 'from gnuradio import gr; import sys; sys.exit(not gr.version().startswith("3.10"))' \
+        2>/dev/null; then
         echo "python3 finds no GNU Radio 3.10"
     fi
 }
@@ -37,7 +42,8 @@ lacks_library() {
 
 # in_gnuradio FILE WORD..: a file of tests/gnuradio
 in_gnuradio() {
-    HOME=$room MAGBELU_LIBRARY=$c_folder/libmagbelu.so PYTHONPATH=$top/python timeout 300 "$python" "$top/tests/gnuradio/$1" "${@:2}"
+    HOME=$room MAGBELU_LIBRARY=$c_folder/libmagbelu.so PYTHONPATH=$top/python timeout 300 "$python" \
+        "$top/tests/gnuradio/$1" "${@:2}"
 }
 
 # with_program COMMAND..: the command, and behind it the words that start the program, which is compiled here where
@@ -46,7 +52,8 @@ with_program() {
     start=("$program")
     if ! is_fresh; then
         if [[ ! -s $room/start ]]; then
-            build_copy "$top/crates/$program_crate" -- run --one-thread -i from=program -o "to=$room/program" "$top/tests/parts/copy.toml"
+            build_copy "$top/crates/$program_crate" -- run --one-thread -i from=program -o "to=$room/program" \
+                "$top/tests/parts/copy.toml"
             printf '%s\n' "${start[@]}" >"$room/start"
         fi
         mapfile -t start <"$room/start"
@@ -88,7 +95,8 @@ try() {
         passed "$2"
     else
         # (`timeout` ends in this status, and says nothing)
-        { tail -n 40 "$room/said" && { [[ $status != 124 ]] || echo "it did not end within 300 seconds"; }; } | failed "$2"
+        { tail -n 40 "$room/said" && { [[ $status != 124 ]] || echo "it did not end within 300 seconds"; }; } |
+            failed "$2"
     fi
 }
 
@@ -99,7 +107,8 @@ run() {
     try "$why" gnuradio/without_library without_library
     try "$why" gnuradio/coverage in_gnuradio coverage.py
     try "$why" gnuradio/modem with_program in_gnuradio modem.py
-    for it in "${own[@]/#/own/}" "${endless[@]/#/endless/}" "${television[@]/#/television/}" "${trellises[@]/#/trellises/}"; do
+    for it in "${own[@]/#/own/}" "${endless[@]/#/endless/}" "${television[@]/#/television/}" \
+        "${trellises[@]/#/trellises/}"; do
         try "$why" "gnuradio/$it" with_program in_gnuradio "${it%/*}.py" "${it#*/}"
     done
     why=${why:-$(lacks_library)}

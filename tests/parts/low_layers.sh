@@ -9,6 +9,7 @@ source "$top/tests/programs.sh"
 
 # (The tests of plants take longest, so they are called first.)
 # shellcheck disable=SC2034  # They are for the script that is sourced.
-folders=(plants flowgraphs blocks kernels leaves) libraries=(pipeline slices slice_threads firing_rules kinds either_block) others=(programs)
+folders=(plants flowgraphs blocks kernels leaves) libraries=(pipeline slices slice_threads firing_rules kinds
+    either_block) others=(programs)
 
 "$1"

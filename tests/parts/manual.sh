@@ -17,7 +17,8 @@ made() {
     "$python" "$top/scripts/manual.py" "$site"
     for page in "$top"/docs/*/*.md "$top"/{CONTRIBUTING,CHANGELOG}.md; do
         page=${page#"$top/"}
-        grep -qF "href=\"${page%.md}.html\" class=\"dropdown-item\"" "$site/index.html" || echo "the navigation lacks $page"
+        grep -qF "href=\"${page%.md}.html\" class=\"dropdown-item\"" "$site/index.html" ||
+            echo "the navigation lacks $page"
     done
 }
 

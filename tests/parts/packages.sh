@@ -1,13 +1,15 @@
 #!/usr/bin/env bash
-# The packages for Debian that ./build --deb has made of these sources, in a fresh Debian of their own without the toolchain: README's first command on the example
-# that they bring, the program and the library for this processor, the program of docs/user/C.md in C, the package for Python, the receiver in the page of
-# magbelu-studio, the block of GNU Radio, and that nothing of them stays. It takes root, debootstrap and some minutes of a network, so ./test tries it by its name
-# alone. What debootstrap brings is kept at $MAGBELU_DEBIAN for a next run, where that names a folder.
+# The packages for Debian that ./build --deb has made of these sources, in a fresh Debian of their own without the
+# toolchain: README's first command on the example that they bring, the program and the library for this processor, the
+# program of docs/user/C.md in C, the package for Python, the receiver in the page of magbelu-studio, the block of GNU
+# Radio, and that nothing of them stays. It takes root, debootstrap and some minutes of a network, so ./test tries it by
+# its name alone. What debootstrap brings is kept at $MAGBELU_DEBIAN for a next run, where that names a folder.
 set -euo pipefail
 # shellcheck source=tests/part.sh
 source "$(dirname -- "$(readlink -f -- "${BASH_SOURCE[0]}")")/../part.sh"
 
-cases=(lintian_is_silent first_command_runs processor_decides program_in_c_runs python_runs drawing_is_converted page_shows_the_receiver block_of_gnuradio_runs nothing_stays)
+cases=(lintian_is_silent first_command_runs processor_decides program_in_c_runs python_runs drawing_is_converted
+    page_shows_the_receiver block_of_gnuradio_runs nothing_stays)
 # What the machine itself has, of which a fresh system may be made.
 suite=$(sed -n 's/^VERSION_CODENAME=//p' /etc/os-release)
 
@@ -41,7 +43,9 @@ inside() { chroot "$system" "${around[@]}" "$@"; }
 # beside_processes COMMAND..: the same where the processes and the devices of the machine are seen, which a browser
 # looks for
 # shellcheck disable=SC2016
-beside_processes() { unshare --mount sh -c 'mount --rbind /proc "$0/proc" && mount --rbind /dev "$0/dev" && exec chroot "$0" "$@"' "$system" "${around[@]}" "$@"; }
+beside_processes() { unshare --mount sh -c \
+    'mount --rbind /proc "$0/proc" && mount --rbind /dev "$0/dev" && exec chroot "$0" "$@"' "$system" "${around[@]}" \
+    "$@"; }
 
 # make_system: a fresh system, with a compiler and Python and nothing else
 make_system() {
@@ -89,7 +93,8 @@ first_command_runs() {
     local examples=/usr/share/doc/magbelu/examples
     grep -qxF "\$ flow run $examples/echo/graph.toml" "$top/docs/user/FOR_GNU_RADIO_USERS.md"
     gives "$(<"$top/examples/echo/expected_run")" flow run "$examples/echo/graph.toml"
-    gives "$(grep -h recording "$top/examples/signal/SHA256SUMS")" sh -c "cd /root && $examples/signal/make.py recording recording.s16 && sha256sum recording.s16"
+    gives "$(grep -h recording "$top/examples/signal/SHA256SUMS")" sh -c \
+        "cd /root && $examples/signal/make.py recording recording.s16 && sha256sum recording.s16"
 }
 
 # The program tells the level of this machine's processor, and the loader takes the library for it.
@@ -130,7 +135,8 @@ drawing_is_converted() {
 page_shows_the_receiver() {
     inside apt-get install --yes --no-install-recommends chromium chromium-driver python3-aiohttp python3-selenium
     cp -r -- "$top/tests/studio" "$system/root/studio"
-    beside_processes python3 /root/studio/receiver.py /root /usr/bin/magbelu-studio /usr/share/doc/magbelu/examples/receiver
+    beside_processes python3 /root/studio/receiver.py /root /usr/bin/magbelu-studio \
+        /usr/share/doc/magbelu/examples/receiver
     cp -- "$system"/root/receiver_{before,after}.png "$top/out"
 }
 
@@ -141,7 +147,8 @@ block_of_gnuradio_runs() {
     cp -r -- "$top/examples/filter" "$system/root/examples"
     cp -- "$top"/tests/gnuradio/{drawing.grc,graph.toml} "$system/root"
     # shellcheck disable=SC2016
-    sed -n '/^```python$/,/^```$/{//d;p}' "$top/docs/user/FOR_GNU_RADIO_USERS.md" | sed '/^print/q' >"$system/root/program.py"
+    sed -n '/^```python$/,/^```$/{//d;p}' "$top/docs/user/FOR_GNU_RADIO_USERS.md" |
+        sed '/^print/q' >"$system/root/program.py"
     gives "[1, 6, 14] done" sh -c 'cd /root && python3 program.py'
     gives "[101, 102, 103] [-2, -4]" sh -c 'cd /root && grcc drawing.grc >said 2>&1 && python3 -c "
 import drawing

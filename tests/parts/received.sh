@@ -21,7 +21,8 @@ received() {
     if [[ -s $came/stdout ]]; then
         status=$not_here
     else
-        PYTHONDONTWRITEBYTECODE=1 "$system_python" "$top/tests/programs/receiver.py" "${1#*/}" "$top" "${start[@]}" >"$came/stdout" 2>&1 </dev/null || status=$?
+        PYTHONDONTWRITEBYTECODE=1 "$system_python" "$top/tests/programs/receiver.py" "${1#*/}" "$top" "${start[@]}" \
+            >"$came/stdout" 2>&1 </dev/null || status=$?
     fi
     echo "$status" >"$came/status"
 }

@@ -79,7 +79,8 @@ report_beside_items_in_its_pipe() {
 
 # (a file that is made is emptied, and one that a shell writes behind what it has is not)
 report_beside_items_behind_others() {
-    ends 0 run -i src=in -o out=so "$plain" >>so 2>errors && is so wanted && has errors 'sink out 1000\ndone\n' || return
+    ends 0 run -i src=in -o out=so "$plain" >>so 2>errors && is so wanted && has errors 'sink out 1000\ndone\n' ||
+        return
     ends 0 run -i src=in -o out=- "$plain" >>so 2>errors && has errors 'sink out 1000\ndone\n' || return
     cat wanted wanted >twice
     is so twice
@@ -122,7 +123,8 @@ two_outputs_in_a_pipe() {
 }
 
 closed_input() {
-    ends 0 run -i src=in -o out=o "$plain" <&- >so 2>errors && is o wanted && has so 'sink out 1000\ndone\n' && has errors ''
+    ends 0 run -i src=in -o out=o "$plain" <&- >so 2>errors && is o wanted && has so 'sink out 1000\ndone\n' &&
+        has errors ''
 }
 
 closed_output() {
@@ -145,7 +147,8 @@ closed_streams() {
 }
 
 closed_input_is_no_empty_one() {
-    ends 4 run -i src=- -o out=o "$plain" <&- >so 2>errors && has errors 'flow: refused 51 Read input 0 in src=-\n' && has so ''
+    ends 4 run -i src=- -o out=o "$plain" <&- >so 2>errors && has errors 'flow: refused 51 Read input 0 in src=-\n' &&
+        has so ''
 }
 
 links_to_no_file() {
@@ -157,16 +160,20 @@ links_to_no_file() {
     ln -s apart/link over
     ln -s round round
     for one in link ./link whole apart/link over; do
-        ends 2 run -i src=in -o out="$one" --tags out=real "$plain" >so 2>errors && refused errors 'a file that is written is named twice' || return
-        ends 2 run -i src=in -o out="$one" "$plain" >real 2>real && refused real 'items, tags or a trace would go to standard error, which tells how the run ended' || return
+        ends 2 run -i src=in -o out="$one" --tags out=real "$plain" >so 2>errors &&
+            refused errors 'a file that is written is named twice' || return
+        ends 2 run -i src=in -o out="$one" "$plain" >real 2>real &&
+            refused real 'items, tags or a trace would go to standard error, which tells how the run ended' || return
         rm real
     done
-    ends 4 run -i src=in -o out=round "$plain" >so 2>errors && has errors 'flow: refused 52 Write output 0 in out=round\n'
+    ends 4 run -i src=in -o out=round "$plain" >so 2>errors &&
+        has errors 'flow: refused 52 Write output 0 in out=round\n'
 }
 
 link_to_a_file_that_is_made() {
     ln -s real link
-    ends 0 run -i src=in -o out=link --tags out=other "$plain" >so 2>errors && is real wanted && has so 'sink out 1000\ndone\n'
+    ends 0 run -i src=in -o out=link --tags out=other "$plain" >so 2>errors && is real wanted &&
+        has so 'sink out 1000\ndone\n'
 }
 
 # unread: `nobody` is a pipe from which nobody reads
@@ -181,7 +188,8 @@ unread() {
 
 nobody_reads_items() {
     local status
-    yes 2>/dev/null | { timeout 60 "${start[@]}" run -i src=- -o out=- "$plain" || echo "$?" >status; } 2>errors | head -c 1000 >so
+    yes 2>/dev/null | { timeout 60 "${start[@]}" run -i src=- -o out=- "$plain" || echo "$?" >status; } 2>errors |
+        head -c 1000 >so
     is so wanted && has errors 'flow: nobody reads standard output any more\n' && has status '141\n' || return
     unread
     ends 141 run --quiet -i src=in -o out=- "$plain" >&"$nobody" 2>errors && has errors '' || return
@@ -203,7 +211,8 @@ nobody_reads_a_fifo() {
 nobody_reads_pieces() {
     local status=0 sender
     # (more than a pipe holds, and no more, since a slice of a full piece is slow in a program with checks)
-    yes 2>/dev/null | head -c 150000 | { timeout 60 "${start[@]}" run --jobs 2 -i src=- -o out=- "$plain" || echo "$?" >status; } 2>errors | head -c 1000 >so
+    yes 2>/dev/null | head -c 150000 | { timeout 60 "${start[@]}" run --jobs 2 -i src=- -o out=- "$plain" ||
+        echo "$?" >status; } 2>errors | head -c 1000 >so
     is so wanted && has errors 'flow: nobody reads standard output any more\n' && has status '141\n' || return
     unread
     mkfifo slow
@@ -216,8 +225,10 @@ nobody_reads_pieces() {
 }
 
 full_device_for_pieces() {
-    ends 4 run --jobs 2 -i src=in -o out=- "$plain" >/dev/full 2>errors && has errors 'flow: refused 52 Write output 0 in out=-\n' || return
-    ends 4 run --jobs 2 -i src=in --marks src=marks -o out=o --tags out=/dev/full "$plain" >so 2>errors && has so '' || return
+    ends 4 run --jobs 2 -i src=in -o out=- "$plain" >/dev/full 2>errors &&
+        has errors 'flow: refused 52 Write output 0 in out=-\n' || return
+    ends 4 run --jobs 2 -i src=in --marks src=marks -o out=o --tags out=/dev/full "$plain" >so 2>errors &&
+        has so '' || return
     has errors 'flow: refused 52 Write tags 0 in out=/dev/full\n'
 }
 
@@ -225,7 +236,8 @@ full_device_for_pieces() {
 pieces_of_a_broken_pipe() {
     sed 's/"byte"/"short"/' "$plain" >shorts.toml
     printf 'a\0b\0c' | ends 1 run -i src=- -o out=whole shorts.toml >report 2>wanted_errors || return
-    { printf 'a\0' && sleep 0.2 && printf 'b\0c'; } | ends 1 run --jobs 2 -i src=- -o out=o shorts.toml >so 2>errors || return
+    { printf 'a\0' && sleep 0.2 && printf 'b\0c'; } | ends 1 run --jobs 2 -i src=- -o out=o shorts.toml >so \
+        2>errors || return
     is o whole && has so 'sink out 2\ndone\n' && is errors wanted_errors && has o 'k\0l\0'
 }
 
@@ -234,10 +246,12 @@ nobody_reads_a_report() {
     unread
     for words in check 'check --feeds' draw run 'run --one-thread' 'run -o out=o' live; do
         # shellcheck disable=SC2086
-        ends 141 $words "$plain" </dev/null >&"$nobody" 2>errors && has errors 'flow: nobody reads standard output any more\n' || return
+        ends 141 $words "$plain" </dev/null >&"$nobody" 2>errors &&
+            has errors 'flow: nobody reads standard output any more\n' || return
     done
     ends 141 kinds >&"$nobody" 2>errors && has errors 'flow: nobody reads standard output any more\n' || return
-    ends 141 script "$plain" <<<settle >&"$nobody" 2>errors && has errors 'flow: nobody reads standard output any more\n' || return
+    ends 141 script "$plain" <<<settle >&"$nobody" 2>errors &&
+        has errors 'flow: nobody reads standard output any more\n' || return
     ends 141 run --quiet "$plain" >&"$nobody" 2>errors && has errors ''
 }
 
@@ -245,11 +259,14 @@ nobody_reads_a_report() {
 nobody_reads_a_report_of_a_traced_run() {
     unread
     ends 141 run --trace trace --stats=json "$plain" >&"$nobody" 2>errors || return
-    [[ -s trace && $(head -n 1 errors) == 'flow: nobody reads standard output any more' && $(wc -l <errors) == 2 ]] || { echo "a trace, and then the times, were wanted" && cat errors; } >&"$told"
+    [[ -s trace && $(head -n 1 errors) == 'flow: nobody reads standard output any more' && $(wc -l <errors) == 2 ]] ||
+        { echo "a trace, and then the times, were wanted" && cat errors; } >&"$told"
 }
 
 full_device() {
-    ends 4 run -i src=in -o out=o "$plain" >/dev/full 2>errors && is o wanted && has errors 'flow: refused 52 Write\n' || return
-    ends 4 run -i src=in -o out=- "$plain" >/dev/full 2>errors && has errors 'flow: refused 52 Write output 0 in out=-\n' || return
+    ends 4 run -i src=in -o out=o "$plain" >/dev/full 2>errors && is o wanted &&
+        has errors 'flow: refused 52 Write\n' || return
+    ends 4 run -i src=in -o out=- "$plain" >/dev/full 2>errors &&
+        has errors 'flow: refused 52 Write output 0 in out=-\n' || return
     ends 4 run -i src=in -o out=/dev/full "$plain" >so 2>/dev/full && has so ''
 }

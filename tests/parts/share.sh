@@ -11,10 +11,12 @@ source "$(dirname -- "$(readlink -f -- "${BASH_SOURCE[0]}")")/../part.sh"
 commands=(check draw kinds new run live script)
 share=$top/share
 # The cases beside those of the commands, each a function.
-others=(flow_from_grc graph_file script_lines man_pages lines_in_bash lines_in_zsh lines_in_fish versions picture picture_of_crates)
+others=(flow_from_grc graph_file script_lines man_pages lines_in_bash lines_in_zsh lines_in_fish versions picture
+    picture_of_crates)
 
 # options TEXT: prints the options that stand in a text, each once
-options() { grep -oE -- '(^|[^a-z-])(-[a-zA-Z]|--[a-z-]+[a-z])' <<<"$1" | grep -oE -- '-+[a-zA-Z-]+' | LC_ALL=C sort -u | paste -sd ' '; }
+options() { grep -oE -- '(^|[^a-z-])(-[a-zA-Z]|--[a-z-]+[a-z])' <<<"$1" | grep -oE -- '-+[a-zA-Z-]+' |
+    LC_ALL=C sort -u | paste -sd ' '; }
 
 # are_options WHERE COMMAND TEXT: a text has the options of this command's help
 are_options() {
@@ -39,18 +41,23 @@ has_values() {
     while IFS= read -r line; do
         option=$(grep -oE -- '--[a-z-]+' <<<"$line" | head -n 1)
         values=$(sed -E 's/.*\[possible values: ([^]]*)\].*/\1/; s/, / /g' <<<"$line")
-        [[ $(_flow_values "$option") == "$values" ]] || wrong "the completion for bash has other words behind $option than: $values"
-        grep -qE -- "$option(=-?)?\[.*:\($values\)" <<<"$zsh_words" || wrong "the completion for zsh has other words behind $option than: $values"
-        grep -qE -- "__flow_is [a-z ]*\b$1\b.* -l ${option#--} .*-a '$values'" <<<"$fish_words" || wrong "the completion for fish has other words behind $option of $1 than: $values"
+        [[ $(_flow_values "$option") == "$values" ]] ||
+            wrong "the completion for bash has other words behind $option than: $values"
+        grep -qE -- "$option(=-?)?\[.*:\($values\)" <<<"$zsh_words" ||
+            wrong "the completion for zsh has other words behind $option than: $values"
+        grep -qE -- "__flow_is [a-z ]*\b$1\b.* -l ${option#--} .*-a '$values'" <<<"$fish_words" ||
+            wrong "the completion for fish has other words behind $option of $1 than: $values"
         for it in $values; do
-            between man/man1/flow.1 "^\.SS $1\$" '^\.S[SH] ' | grep -qE "^\.BR? $it\b" || wrong "the man page has no $it behind $option"
+            between man/man1/flow.1 "^\.SS $1\$" '^\.S[SH] ' | grep -qE "^\.BR? $it\b" ||
+                wrong "the man page has no $it behind $option"
         done
     done < <(grep -F '[possible values: ' <<<"$help")
 }
 
 # in_fish COMMAND: prints the options that the completion for fish has for a command
 in_fish() {
-    { grep -E -- "__flow_is [a-z ]*\b$1\b" <<<"$fish_words"; grep -F -- 'not __flow_is help' <<<"$fish_words"; } | grep -oE -- ' -[sl] [a-zA-Z-]+' |
+    { grep -E -- "__flow_is [a-z ]*\b$1\b" <<<"$fish_words"; grep -F -- 'not __flow_is help' <<<"$fish_words"; } |
+        grep -oE -- ' -[sl] [a-zA-Z-]+' |
         sed -E 's/ -s /-/; s/ -l /--/' | LC_ALL=C sort -u | paste -sd ' '
 }
 
@@ -73,7 +80,8 @@ words_of() {
     done
     saying=$(sed -n 1p <<<"$help")
     grep -qE "^ +'$1:$saying'\$" <<<"$zsh_words" || wrong "the completion for zsh lacks what $1 does: $saying"
-    grep -qxF "complete -c flow -n __flow_is -a $1 -d '$saying'" <<<"$fish_words" || wrong "the completion for fish lacks what $1 does: $saying"
+    grep -qxF "complete -c flow -n __flow_is -a $1 -d '$saying'" <<<"$fish_words" ||
+        wrong "the completion for fish lacks what $1 does: $saying"
 }
 
 # flow_from_grc: its options stand in its man page and its completions
@@ -84,12 +92,17 @@ flow_from_grc() {
         return
     fi
     are_options "the man page" "" "$(between man/man1/flow-from-grc.1 '^\.SH OPTIONS' '^\.SH EXIT')"
-    are_options "the completion for bash" "" "$(sed -n 's/.*compgen -W "\([^"]*\)".*/\1/p' "$share/bash-completion/completions/flow-from-grc")"
-    are_options "the completion for zsh" "" "$(sed 's/[{},+=]/ /g; s/ -g / /' "$share/zsh/site-functions/_flow-from-grc")"
-    are_options "the completion for fish" "" "$(sed -E 's/ -[cdfkarF]\b//g; s/ -s ([a-z])/ -\1/; s/ -l ([a-z])/ --\1/' "$share/fish/vendor_completions.d/flow-from-grc.fish")"
+    are_options "the completion for bash" "" "$(sed -n 's/.*compgen -W "\([^"]*\)".*/\1/p' \
+        "$share/bash-completion/completions/flow-from-grc")"
+    are_options "the completion for zsh" "" "$(sed 's/[{},+=]/ /g; s/ -g / /' \
+        "$share/zsh/site-functions/_flow-from-grc")"
+    are_options "the completion for fish" "" "$(sed -E 's/ -[cdfkarF]\b//g; s/ -s ([a-z])/ -\1/; s/ -l ([a-z])/ --\1/' \
+        "$share/fish/vendor_completions.d/flow-from-grc.fish")"
     while IFS= read -r saying; do
-        grep -qF -- "[$saying]" "$share/zsh/site-functions/_flow-from-grc" || wrong "the completion for zsh lacks: $saying"
-        grep -qF -- "-d '$saying'" "$share/fish/vendor_completions.d/flow-from-grc.fish" || wrong "the completion for fish lacks: $saying"
+        grep -qF -- "[$saying]" "$share/zsh/site-functions/_flow-from-grc" ||
+            wrong "the completion for zsh lacks: $saying"
+        grep -qF -- "-d '$saying'" "$share/fish/vendor_completions.d/flow-from-grc.fish" ||
+            wrong "the completion for fish lacks: $saying"
     done < <(between man/man1/flow-from-grc.1 '^\.SH OPTIONS' '^\.SH EXIT' | grep '^[A-Z][a-z]* ')
 }
 
@@ -99,7 +112,8 @@ graph_file() {
     text=$(between man/man1/flow.1 '^\.SH GRAPH FILE' '^\.SH SCRIPTS')
     while IFS= read -r key; do
         grep -qE "^\.BR? ([a-z_]+ \", \" )?$key\b" <<<"$text" || wrong "the man page lacks the key $key"
-    done < <(sed -n '/^Keys of `block`:/,/^Blocks and connections/p' "$top/docs/user/FILES.md" | grep -E '^- `' | sed 's/:.*//' | grep -oE '[a-z_]+')
+    done < <(sed -n '/^Keys of `block`:/,/^Blocks and connections/p' "$top/docs/user/FILES.md" | grep -E '^- `' |
+        sed 's/:.*//' | grep -oE '[a-z_]+')
 }
 
 # script_lines: the man page has each command of a script, and how a mark is written
@@ -138,7 +152,8 @@ bash_offers() {
 
 # fish_offers LINE: the same of fish, which offers a word whole
 fish_offers() {
-    env HOME="$room" fish --no-config -c "for it in \$argv[2..]; source \$it; end; complete -C \$argv[1]" "$1" "$share"/fish/vendor_completions.d/*.fish | cut -f 1
+    env HOME="$room" fish --no-config -c "for it in \$argv[2..]; source \$it; end; complete -C \$argv[1]" "$1" \
+        "$share"/fish/vendor_completions.d/*.fish | cut -f 1
 }
 
 # zsh_offers LINE
@@ -148,7 +163,8 @@ zsh_offers() { env HOME="$room" timeout 60 zsh -f "$top/tests/completed.zsh" "$s
 # last `=` already
 offers() {
     local came wanted
-    came=$(cd -- "$room/offered" && "${shell}_offers" "$1" | sed -E 's/^--[a-z]+=//; s/^[a-z]+=(.)/\1/' | LC_ALL=C sort | paste -sd ' ')
+    came=$(cd -- "$room/offered" && "${shell}_offers" "$1" | sed -E 's/^--[a-z]+=//; s/^[a-z]+=(.)/\1/' |
+        LC_ALL=C sort | paste -sd ' ')
     wanted=$(printf '%s\n' "${@:2}" | LC_ALL=C sort | paste -sd ' ')
     [[ $came == "$wanted" ]] || wrong "for '$1' comes '$came', and not '$wanted'"
 }
@@ -162,9 +178,11 @@ lines_in() {
     fi
     mkdir -p "$room/offered"
     touch "$room/offered/"{input.raw,a.grc}
-    printf '%s\n' '[[block]] # "a"' 'name = "src"' 'kind = "vector_source"' '[[block]]' "kind = 'vector_sink'" "name = 'out'" '[[connect]]' 'from = "src"' \
+    printf '%s\n' '[[block]] # "a"' 'name = "src"' 'kind = "vector_source"' '[[block]]' "kind = 'vector_sink'" \
+        "name = 'out'" '[[connect]]' 'from = "src"' \
         '[[feed]]' 'source = "src"' >"$room/offered/graph.toml"
-    printf '%s\n' 'block = [{ name = "one", kind = "vector_source" }, {' 'kind="vector_source",' 'name="two" }, { name = "three", kind = "vector_sink" }]' >"$room/offered/flat.toml"
+    printf '%s\n' 'block = [{ name = "one", kind = "vector_source" }, {' 'kind="vector_source",' \
+        'name="two" }, { name = "three", kind = "vector_sink" }]' >"$room/offered/flat.toml"
     offers 'flow r' run
     offers 'flow run --one' --one-thread
     offers 'flow run --stats=' text json
@@ -201,18 +219,23 @@ versions_of_all() {
     for it in "$share"/man/man1/*.1; do
         is_version "the program" "$wanted" "${it#"$top/"}" "$(sed -nE '1s/^\.TH .* "flow ([^"]*)".*/\1/p' "$it")"
     done
-    is_version "the program" "$wanted" tests/cases/words/call_for_the_version "$(sed -n 's/^flow //p' "$top/tests/cases/words/call_for_the_version/stdout")"
-    is_version "the program" "$wanted" "the newest part of CHANGELOG.md" "$(sed -n '/^## /{s///p;q}' "$top/CHANGELOG.md")"
+    is_version "the program" "$wanted" tests/cases/words/call_for_the_version \
+        "$(sed -n 's/^flow //p' "$top/tests/cases/words/call_for_the_version/stdout")"
+    is_version "the program" "$wanted" "the newest part of CHANGELOG.md" \
+        "$(sed -n '/^## /{s///p;q}' "$top/CHANGELOG.md")"
 }
 
 # versions_of_calls: the version of the library's calls
 versions_of_calls() {
     local wanted
     wanted=$(version_of_calls)
-    is_version "the calls" "$wanted" crates/magbelu_c "$(sed -n 's/^const VERSION: u32 = \(.*\);$/\1/p' "$top/crates/$c_crate/src/calls.rt")"
+    is_version "the calls" "$wanted" crates/magbelu_c \
+        "$(sed -n 's/^const VERSION: u32 = \(.*\);$/\1/p' "$top/crates/$c_crate/src/calls.rt")"
     is_version "the calls" "$wanted" python/magbelu "$(sed -n 's/^_VERSION = //p' "$top/python/magbelu/_library.py")"
-    is_version "the calls" "$wanted" "the package of Debian" "$(sed -n 's/^Package: libmagbelu\([0-9]*\)$/\1/p' "$top/scripts/debian/control")"
-    is_version "the calls" "$wanted" "the newest part of CHANGELOG.md" "$(sed -nE '/^The calls of the library for C: version (.*)\.$/{s//\1/p;q}' "$top/CHANGELOG.md")"
+    is_version "the calls" "$wanted" "the package of Debian" \
+        "$(sed -n 's/^Package: libmagbelu\([0-9]*\)$/\1/p' "$top/scripts/debian/control")"
+    is_version "the calls" "$wanted" "the newest part of CHANGELOG.md" \
+        "$(sed -nE '/^The calls of the library for C: version (.*)\.$/{s//\1/p;q}' "$top/CHANGELOG.md")"
 }
 
 # versions: of all
@@ -239,7 +262,8 @@ picture_of_crates() {
     local said
     if ! command -v python3 >/dev/null; then
         why_not="there is no python3 to read it"
-    elif ! said=$("$top/scripts/crates_picture.py" --text 2>&1 >"$room/crates.dot" && python3 "$top/tests/drawn.py" "$room/crates.dot" "$top/docs/contribute/crates.svg" 2>&1); then
+    elif ! said=$("$top/scripts/crates_picture.py" --text 2>&1 >"$room/crates.dot" &&
+        python3 "$top/tests/drawn.py" "$room/crates.dot" "$top/docs/contribute/crates.svg" 2>&1); then
         wrong "$said"
         wrong "scripts/crates_picture.py draws docs/contribute/crates.svg"
     fi

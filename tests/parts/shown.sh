@@ -57,7 +57,8 @@ make_recording() {
         echo "examples/signal/make.py makes other files" >&2
         exit 1
     fi
-    wanted="sink out 10002 $(od -An -v -td2 "$shown/$name/filtered.s16" | xargs) @0:rx_rate=480000/0 @2:lead=20/0"$'\n'done
+    wanted="sink out 10002 $(od -An -v -td2 "$shown/$name/filtered.s16" |
+        xargs) @0:rx_rate=480000/0 @2:lead=20/0"$'\n'done
     make "$name" "$wanted" '' 0 run -i adc=recording.s16 graph.toml
     cp -- "$top/examples/signal/graph.toml" "$shown/$name"
 }
@@ -70,7 +71,8 @@ make_call() {
     while (($# > 0)); do
         case $1 in
         '<') input=$2 && shift ;;
-        examples/*.toml | /usr/share/doc/magbelu/examples/*.toml) graph=${1#/usr/share/doc/magbelu/} && words+=(graph.toml) ;;
+        examples/*.toml | /usr/share/doc/magbelu/examples/*.toml) graph=${1#/usr/share/doc/magbelu/} &&
+            words+=(graph.toml) ;;
         *) words+=("$1") ;;
         esac
         shift
@@ -163,7 +165,8 @@ make_calls_of() {
 }
 
 # of_man_page N: prints the Nth of the texts of the man page's example
-of_man_page() { sed -n '/^\.SS An example$/,/^\.SH /p' "$top/share/man/man1/flow.1" | awk -v wanted="$1" '/^\.fi$/ { shows = 0 } shows && at == wanted; /^\.nf$/ { shows = 1; at++ }'; }
+of_man_page() { sed -n '/^\.SS An example$/,/^\.SH /p' "$top/share/man/man1/flow.1" |
+    awk -v wanted="$1" '/^\.fi$/ { shows = 0 } shows && at == wanted; /^\.nf$/ { shows = 1; at++ }'; }
 
 # make_man_page: the graph that the man page shows, with what a run of it prints
 make_man_page() {

@@ -87,7 +87,8 @@ one_producer_that_opens_both() { produced 'exec 3>a 4>b; cat in >&3; exec 3>&-; 
 
 a_pipe_that_ends() {
     go -i a=a -i b=b -o oa=oa -o ob=ob "$chains"
-    printf ABC >&"$to_b" && comes ob 3 && exec {to_b}>&- && printf A >&"$to_a" && comes oa 1 && printf A >&"$to_a" && comes oa 2 || return
+    printf ABC >&"$to_b" && comes ob 3 && exec {to_b}>&- && printf A >&"$to_a" && comes oa 1 && printf A >&"$to_a" &&
+        comes oa 2 || return
     exec {to_a}>&-
     ended 0 'sink oa 2\nsink ob 3\ndone\n' && has oa KK && has ob KLM && has errors ''
 }
@@ -95,8 +96,10 @@ a_pipe_that_ends() {
 a_pipe_that_ends_within_an_item() {
     sed 's/"byte"/"short"/' "$chains" >shorts.toml
     go -i a=a -i b=b -o oa=oa -o ob=ob shorts.toml
-    printf AB >&"$to_b" && comes ob 2 && printf ABC >&"$to_a" && comes oa 2 && exec {to_a}>&- && printf CD >&"$to_b" && comes ob 4 && exec {to_b}>&- || return
-    ended 1 'sink oa 1\nsink ob 2\ndone\n' && has oa KB && has ob KBMD && has errors 'flow: refused 53 CutItem input 0 in a=a\n'
+    printf AB >&"$to_b" && comes ob 2 && printf ABC >&"$to_a" && comes oa 2 && exec {to_a}>&- &&
+        printf CD >&"$to_b" && comes ob 4 && exec {to_b}>&- || return
+    ended 1 'sink oa 1\nsink ob 2\ndone\n' && has oa KB && has ob KBMD &&
+        has errors 'flow: refused 53 CutItem input 0 in a=a\n'
 }
 
 a_pipe_that_is_empty() {
@@ -107,7 +110,8 @@ a_pipe_that_is_empty() {
 
 standard_input() {
     go -i a=- -i b=b -o oa=oa -o ob=ob "$chains" <a
-    printf A >&"$to_b" && comes ob 1 && printf B >&"$to_b" && comes ob 2 && printf C >&"$to_a" && comes oa 1 && printf D >&"$to_b" && comes ob 3 || return
+    printf A >&"$to_b" && comes ob 1 && printf B >&"$to_b" && comes ob 2 && printf C >&"$to_a" && comes oa 1 &&
+        printf D >&"$to_b" && comes ob 3 || return
     exec {to_a}>&- {to_b}>&-
     ended 0 'sink oa 1\nsink ob 3\ndone\n' && has oa M && has ob KLN && has errors ''
 }
@@ -122,8 +126,10 @@ a_file_beside_a_pipe() {
 # (the second line is that of an item behind those that came first, so that these are fed)
 marks_from_a_pipe() {
     go -i a=a --marks a=m -i b=b -o oa=oa --tags oa=t -o ob=ob "$chains"
-    printf A >&"$to_b" && comes ob 1 && printf '@1:k=5\n@3:k=6\n' >&"$to_m" && printf ABC >&"$to_a" && comes oa 3 && comes t 9 || return
-    printf B >&"$to_b" && comes ob 2 && exec {to_m}>&- && printf D >&"$to_a" && comes oa 4 && exec {to_a}>&- {to_b}>&- || return
+    printf A >&"$to_b" && comes ob 1 && printf '@1:k=5\n@3:k=6\n' >&"$to_m" && printf ABC >&"$to_a" && comes oa 3 &&
+        comes t 9 || return
+    printf B >&"$to_b" && comes ob 2 && exec {to_m}>&- && printf D >&"$to_a" && comes oa 4 &&
+        exec {to_a}>&- {to_b}>&- || return
     ended 0 'sink oa 4\nsink ob 2\ndone\n' && has oa KLMN && has t '@1:k=5/0\n@3:k=6/0\n' && has errors ''
 }
 

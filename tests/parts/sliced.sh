@@ -33,8 +33,10 @@ slices_lack() {
 # last three of the numbers from 1 to 8, which stand there, and then of zeros
 slices_far() {
     local at=$((1 << 38))
-    printf '\1\0\2\0\3\0\4\0\5\0\6\0\7\0\10\0' | dd of="$room/terabyte" bs=2 seek="$at" conv=notrunc status=none || return
-    timeout 60 "${start[@]}" run --from "$at" --items 10 -i "in=$room/terabyte" -o "out=$room/far" "$top/tests/graphs/sum_of_three.toml" >"$room/report" 2>&1
+    printf '\1\0\2\0\3\0\4\0\5\0\6\0\7\0\10\0' | dd of="$room/terabyte" bs=2 seek="$at" conv=notrunc status=none ||
+        return
+    timeout 60 "${start[@]}" run --from "$at" --items 10 -i "in=$room/terabyte" -o "out=$room/far" \
+        "$top/tests/graphs/sum_of_three.toml" >"$room/report" 2>&1
     differs stdout <(printf 'sink out 10\ndone\n') "$room/report" || return
     differs items <(echo 1 3 6 9 12 15 18 21 15 8) <(od -An -v -td2 "$room/far" | xargs)
 }

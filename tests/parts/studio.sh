@@ -5,10 +5,13 @@ set -euo pipefail
 # shellcheck source=tests/part.sh
 source "$(dirname -- "$(readlink -f -- "${BASH_SOURCE[0]}")")/../part.sh"
 
-without_browser=(wrong_token other_origin this_machine_alone refused_graphs columns slow_page pipes cut_item steps pages_come_and_go ended frames_a_second memory script items_over_items trigger saved texts
+without_browser=(wrong_token other_origin this_machine_alone refused_graphs columns slow_page pipes cut_item steps
+    pages_come_and_go ended frames_a_second memory script items_over_items trigger saved texts
     fast counts works fires input_guarded graph_before_frames asked_meanwhile opens as_module)
-in_browser=(sinks_as_run controls markup many_blocks server_killed dragged thousand taps transforms all_views faults added_and_joined dropped saves
-    keys_and_contrast works_shown firings_shown watches drops_items saves_items two_pages names_with_markup readable receiver receives_text drawn_as_draw parameters_shown
+in_browser=(sinks_as_run controls markup many_blocks server_killed dragged thousand taps transforms all_views faults
+    added_and_joined dropped saves
+    keys_and_contrast works_shown firings_shown watches drops_items saves_items two_pages names_with_markup readable
+    receiver receives_text drawn_as_draw parameters_shown
     waits_shown pointed zoomed_and_held undrawn_told)
 # (Debian's modules are there for its own Python alone.)
 python=$([[ -x /usr/bin/python3 ]] && echo /usr/bin/python3 || echo python3)
@@ -21,7 +24,8 @@ lacks() {
     local it
     for it; do
         case $it in
-        library) is_fresh "$c_folder/libmagbelu.so" "$c_crate" || echo "./build --c has not built libmagbelu.so from these sources" ;;
+        library) is_fresh "$c_folder/libmagbelu.so" "$c_crate" ||
+            echo "./build --c has not built libmagbelu.so from these sources" ;;
         chromium | chromedriver) [[ -x /usr/bin/$it ]] || echo "there is no $it" ;;
         *) "$python" -c "import $it" 2>/dev/null || echo "python3 has no module $it" ;;
         esac
@@ -30,7 +34,8 @@ lacks() {
 
 # case_of NAME
 case_of() {
-    HOME=$room MAGBELU_LIBRARY=$c_folder/libmagbelu.so PYTHONPATH=${hidden-}$top/python timeout 300 "$python" "$top/tests/studio/cases.py" "$1"
+    HOME=$room MAGBELU_LIBRARY=$c_folder/libmagbelu.so PYTHONPATH=${hidden-}$top/python timeout 300 "$python" \
+        "$top/tests/studio/cases.py" "$1"
 }
 
 # without_numpy COMMAND..: the same where Python finds none
@@ -59,7 +64,8 @@ try() {
         passed "$2"
     else
         # (`timeout` ends in this status, and says nothing)
-        { tail -n 40 "$room/said" && { [[ $status != 124 ]] || echo "it did not end within 300 seconds"; }; } | failed "$2"
+        { tail -n 40 "$room/said" && { [[ $status != 124 ]] || echo "it did not end within 300 seconds"; }; } |
+            failed "$2"
     fi
 }
 

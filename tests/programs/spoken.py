@@ -110,8 +110,10 @@ class Live:
 def script(program, folder, lines):
     """What a script of these lines replies."""
     text = "".join(line + "\n" for line in lines)
-    answer = subprocess.run([*program, "script", "graph.toml"], cwd=folder, input=text, capture_output=True, text=True, timeout=200, check=False)
-    check((answer.returncode, answer.stderr) == (0, ""), "the script ended in %d with %r" % (answer.returncode, answer.stderr))
+    answer = subprocess.run([*program, "script", "graph.toml"], cwd=folder, input=text, capture_output=True,
+        text=True, timeout=200, check=False)
+    check((answer.returncode, answer.stderr) == (0, ""),
+        "the script ended in %d with %r" % (answer.returncode, answer.stderr))
     return answer.stdout.splitlines()
 
 
@@ -196,7 +198,8 @@ def killed(program, folder):
     producer.wait()
     report, errors = live.run.communicate(timeout=60)
     came = (folder / "out").read_bytes()
-    check((live.run.returncode, report, errors) == (0, "sink out %d\ndone\n" % len(came), ""), "it ended in %d with %r and %r" % (live.run.returncode, report, errors))
+    check((live.run.returncode, report, errors) == (0, "sink out %d\ndone\n" % len(came), ""),
+        "it ended in %d with %r and %r" % (live.run.returncode, report, errors))
     check(len(came) >= 100 and came == b"bcdef" * (len(came) // 5), "what was recorded: %r" % came)
 
 
@@ -322,7 +325,8 @@ def long(program, folder):
     """A stream that is set again and again holds its memory."""
     (folder / "graph.toml").write_text(graph("short", ["fir taps = [1, 2, 3, 4, 5, 6, 7, 8]"]), encoding="utf-8")
     words = ["live", "-i", "src=/dev/zero", "-o", "out=/dev/null", "graph.toml"]
-    run = subprocess.Popen([*program, *words], cwd=folder, env=KEEPS_NOTHING, stdin=subprocess.PIPE, stdout=subprocess.PIPE, text=True, bufsize=1)
+    run = subprocess.Popen([*program, *words], cwd=folder, env=KEEPS_NOTHING, stdin=subprocess.PIPE,
+        stdout=subprocess.PIPE, text=True, bufsize=1)
 
     def memory(key="VmRSS:"):
         status = pathlib.Path("/proc/%d/status" % run.pid).read_text(encoding="utf-8")
@@ -341,7 +345,8 @@ def long(program, folder):
     run.stdin.write("stop\n")
     run.communicate(timeout=60)
     check(run.returncode == 0 and last > 0 and count * PAUSE > LONG / 8, "%d settings, the last at %d" % (count, last))
-    check(grown <= GROWTH and (has_checks or most <= MOST), "it grew by %d kilobytes to %d while it was set %d times" % (grown, most, count))
+    check(grown <= GROWTH and (has_checks or most <= MOST),
+        "it grew by %d kilobytes to %d while it was set %d times" % (grown, most, count))
     if os.environ.get("TELL_TIMES"):
         print("%d settings, %d items, %d kilobytes at most, grown by %d" % (count, last, most, grown), file=sys.stderr)
 
@@ -365,13 +370,16 @@ def readme(program, folder):
     top = pathlib.Path(__file__).resolve().parents[2]
     shown = (top / "README.md").read_text(encoding="utf-8").partition('$ echo "set low')
     lines = (shown[1] + shown[2]).partition("\n```")[0].splitlines()
-    calls, output = [line[2:] for line in lines if line.startswith("$ ")], [line for line in lines if not line.startswith("$ ")]
+    calls = [line[2:] for line in lines if line.startswith("$ ")]
+    output = [line for line in lines if not line.startswith("$ ")]
     (folder / "flow").write_text('#!/bin/sh\nexec %s "$@"\n' % shlex.join(program), encoding="utf-8")
     (folder / "flow").chmod(0o755)
     (folder / "examples").symlink_to(top / "examples")
     subprocess.run([sys.executable, "examples/signal/make.py", "recording", "recording.s16"], cwd=folder, check=True)
-    came = subprocess.run(["bash", "-c", "\n".join(calls)], cwd=folder, capture_output=True, text=True, timeout=180, check=False)
-    check((came.stdout.splitlines(), came.stderr) == (output, ""), "README shows %r, and there came %r and %r" % (output, came.stdout, came.stderr))
+    came = subprocess.run(["bash", "-c", "\n".join(calls)], cwd=folder, capture_output=True, text=True, timeout=180,
+        check=False)
+    check((came.stdout.splitlines(), came.stderr) == (output, ""),
+        "README shows %r, and there came %r and %r" % (output, came.stdout, came.stderr))
     tape = [0] * 20 + [item for (item,) in struct.iter_unpack("<h", (folder / "recording.s16").read_bytes())]
     first, then = [*range(1, 17), *range(16, 0, -1)], list(range(1, 33))
     wanted = []
@@ -382,7 +390,8 @@ def readme(program, folder):
     check((folder / "set.s16").read_bytes() == struct.pack("<%dh" % len(wanted), *wanted), "what was recorded")
 
 
-CASES = {"settings": settings, "stop": stop, "killed": killed, "closes": closes, "lines": lines, "standard": standard, "two": two, "soon": soon, "long": long, "gone": gone, "readme": readme}
+CASES = {"settings": settings, "stop": stop, "killed": killed, "closes": closes, "lines": lines,
+    "standard": standard, "two": two, "soon": soon, "long": long, "gone": gone, "readme": readme}
 
 
 def main():

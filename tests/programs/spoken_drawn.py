@@ -20,7 +20,8 @@ SECONDS = 400 + 20 * GRAPHS
 PIECE = 4000
 LOW, HIGH = {"byte": 0, "short": -300, "int": -5000}, {"byte": 255, "short": 300, "int": 5000}
 # What a graph has beside blocks that are set, with the least and the greatest of its parameter.
-OTHERS = [("keep_one_in_n", "n", 1, 4), ("delay", "n", 0, 30), ("skiphead", "n", 0, 200), ("moving_sum", "length", 1, 6), ("not", None, 0, 0), ("repeat", "n", 2, 3)]
+OTHERS = [("keep_one_in_n", "n", 1, 4), ("delay", "n", 0, 30), ("skiphead", "n", 0, 200),
+    ("moving_sum", "length", 1, 6), ("not", None, 0, 0), ("repeat", "n", 2, 3)]
 
 
 class Drawn:
@@ -43,7 +44,8 @@ class Drawn:
 
     def block(self, kind, name, keys=""):
         """A block more, of which the name is given."""
-        room = ", capacity = %d" % self.chance.choice([1, 7, 100]) if kind != "vector_sink" and self.chance.random() < 0.5 else ""
+        is_small = kind != "vector_sink" and self.chance.random() < 0.5
+        room = ", capacity = %d" % self.chance.choice([1, 7, 100]) if is_small else ""
         self.rows.append('{ name = "%s", kind = "%s", type = "%s"%s%s }' % (name, kind, self.type, keys, room))
         return name
 
@@ -61,14 +63,16 @@ class Drawn:
                 kind, key, least, most = self.chance.choice(kinds)
                 # (of many items nothing is seen that few do not show)
                 kinds = OTHERS[:-1] if kind == "repeat" else kinds
-                end = self.join(end, self.block(kind, name, ", %s = %d" % (key, self.chance.randint(least, most)) if key else ""))
+                keys = ", %s = %d" % (key, self.chance.randint(least, most)) if key else ""
+                end = self.join(end, self.block(kind, name, keys))
             elif self.type != "byte" and self.chance.random() < 0.4:
                 count_of_taps = self.chance.randint(1, 5)
                 self.settable[name] = count_of_taps
                 end = self.join(end, self.block("fir", name, ", taps = %r" % self.values(count_of_taps)))
             else:
                 self.settable[name] = 1
-                end = self.join(end, self.block(self.chance.choice(["add_const", "multiply_const"]), name, ", value = %d" % self.values(1)[0]))
+                kind = self.chance.choice(["add_const", "multiply_const"])
+                end = self.join(end, self.block(kind, name, ", value = %d" % self.values(1)[0]))
         return end
 
     def values(self, count):
@@ -77,7 +81,8 @@ class Drawn:
 
     def text(self):
         """The graph file."""
-        return "block = [\n    %s,\n]\nconnect = [\n    %s,\n]\n" % (",\n    ".join(self.rows), ",\n    ".join(self.wires))
+        rows, wires = ",\n    ".join(self.rows), ",\n    ".join(self.wires)
+        return "block = [\n    %s,\n]\nconnect = [\n    %s,\n]\n" % (rows, wires)
 
 
 class Talk:
@@ -110,13 +115,16 @@ class Talk:
         """A setting, of now or of an item that has come, or comes, or never does."""
         name, count = self.chance.choice(list(self.graph.settable.items()))
         values = " ".join(map(str, self.graph.values(count)))
-        place = "now" if self.chance.random() < 0.5 else str(self.chance.randint(0, 2 * max(map(len, self.tapes.values())) + 50))
+        longest = max(map(len, self.tapes.values()), default=0)
+        place = "now" if self.chance.random() < 0.5 else str(self.chance.randint(0, 2 * longest + 50))
         word, *numbers = self.live.ask("set %s %s %s" % (name, place, values)).split()
         at = int(numbers[-1])
         if word == "refused":
-            check(numbers[0] == "27" and place != "now" and int(place) < at, "a setting of %s at %s is refused %s" % (name, place, numbers))
+            check(numbers[0] == "27" and place != "now" and int(place) < at,
+                "a setting of %s at %s is refused %s" % (name, place, numbers))
         else:
-            check(word == "taken" and place in ("now", str(at)), "a setting of %s at %s is taken at %d" % (name, place, at))
+            check(word == "taken" and place in ("now", str(at)),
+                "a setting of %s at %s is taken at %d" % (name, place, at))
             self.settings.append("set %s %d %s" % (name, at, values))
         # What is open does not fall.
         if word == "refused" or place == "now":
@@ -128,14 +136,17 @@ class Talk:
         lines = [self.live.ask("levels")] + [self.live.reply() for _ in self.graph.rows[1:]]
         for line, row in zip(lines, self.graph.rows):
             word, name, taken, given, waiting = line.split()
-            check(word == "levels" and 'name = "%s"' % name in row and min(int(taken), int(given), int(waiting)) >= 0, "levels: %r" % line)
-            check(self.taken.get(name, 0) <= int(taken), "%s was at %d, and is at %s" % (name, self.taken.get(name, 0), taken))
+            check(word == "levels" and 'name = "%s"' % name in row
+                and min(int(taken), int(given), int(waiting)) >= 0, "levels: %r" % line)
+            check(self.taken.get(name, 0) <= int(taken),
+                "%s was at %d, and is at %s" % (name, self.taken.get(name, 0), taken))
             self.taken[name] = int(taken)
 
     def wrong(self):
         """A line that is refused."""
         name = next(iter(self.graph.settable))
-        line, reply = self.chance.choice([("set none now 1", "20"), ("close " + name, "21"), ("set %s now 1" % self.graph.sinks[0], "28"), ("read o0 0 1", "50"), ("close none", "20")])
+        line, reply = self.chance.choice([("set none now 1", "20"), ("close " + name, "21"),
+            ("set %s now 1" % self.graph.sinks[0], "28"), ("read o0 0 1", "50"), ("close none", "20")])
         came = self.live.ask(line)
         check(came == "refused " + reply, "to %r came %r" % (line, came))
 
@@ -146,7 +157,8 @@ class Talk:
         if source in self.closed:
             check((word, number) == ("refused", "23"), "a second close is answered %s %s" % (word, number))
             return
-        check(word == "closed" and int(number) <= len(self.tapes[source]), "of %d items %s were read" % (len(self.tapes[source]), number))
+        check(word == "closed" and int(number) <= len(self.tapes[source]),
+            "of %d items %s were read" % (len(self.tapes[source]), number))
         self.closed[source] = int(number)
 
     def whole(self, program):
@@ -154,14 +166,16 @@ class Talk:
         lines = list(self.settings)
         for source, tape in self.tapes.items():
             tape = tape[: self.closed.get(source, len(tape))]
-            lines += ["feed %s %s" % (source, " ".join(map(str, tape[at : at + PIECE]))) for at in range(0, len(tape), PIECE)]
+            lines += ["feed %s %s" % (source, " ".join(map(str, tape[at : at + PIECE])))
+                for at in range(0, len(tape), PIECE)]
             lines.append("close " + source)
         lines.append("settle")
         reads = ["read %s 0 100000" % sink for sink in self.graph.sinks]
         replies = script(program, self.folder, lines + reads)
         for line, reply in zip(self.settings, replies):
             check(reply == "taken " + line.split()[2], "a script answers %r to %r" % (reply, line))
-        return {sink: [int(item) for item in reply.split()[2:]] for sink, reply in zip(self.graph.sinks, replies[len(lines) :])}
+        shown = zip(self.graph.sinks, replies[len(lines) :])
+        return {sink: [int(item) for item in reply.split()[2:]] for sink, reply in shown}
 
     def finish(self, program):
         """It ends by itself once the producers do, or by a stop, and what streamed is what the script reads, or a
@@ -175,12 +189,15 @@ class Talk:
         wanted = self.whole(program)
         report, errors = self.live.run.communicate(timeout=200)
         *sinks, last = report.splitlines()
-        check((self.live.run.returncode, errors, last) == (0, "", "stopped" if is_stopped else "done"), "it ended in %d with %r and %r" % (self.live.run.returncode, report, errors))
+        check((self.live.run.returncode, errors, last) == (0, "", "stopped" if is_stopped else "done"),
+            "it ended in %d with %r and %r" % (self.live.run.returncode, report, errors))
         for sink, line in zip(self.graph.sinks, sinks):
             items = wanted[sink][: int(line.split()[2])] if is_stopped else wanted[sink]
-            check(line == "sink %s %d" % (sink, len(items)), "the report has %r, of %d items" % (line, len(wanted[sink])))
+            check(line == "sink %s %d" % (sink, len(items)),
+                "the report has %r, of %d items" % (line, len(wanted[sink])))
             came = (self.folder / sink).read_bytes()
-            check(came == struct.pack("<%d%s" % (len(items), FORMATS[self.graph.type]), *items), "what streamed to %s is not what the script reads" % sink)
+            check(came == struct.pack("<%d%s" % (len(items), FORMATS[self.graph.type]), *items),
+                "what streamed to %s is not what the script reads" % sink)
 
 
 def talk(program, folder, seed):
@@ -191,7 +208,8 @@ def talk(program, folder, seed):
     chance = graph.chance
     for turn in range(chance.randint(10, 40)):
         may_close = turn > 5 and len(graph.sources) == 2 and not graph.is_joined
-        chance.choice([said.give, said.give, said.set, said.set, said.levels, said.wrong, said.close if may_close else said.give])()
+        last = said.close if may_close else said.give
+        chance.choice([said.give, said.give, said.set, said.set, said.levels, said.wrong, last])()
     if graph.is_joined and chance.random() < 0.5:
         said.close()
     said.finish(program)

@@ -21,9 +21,11 @@ class Server:
     #: What Python gets as the command, of the checkout or of an installation.
     studio: tuple[str, ...] = (str(TOP / "magbelu-studio"),)
 
-    def __init__(self, *words: str, stdin: Any = subprocess.DEVNULL, env: Optional[dict[str, str]] = None, opens: bool = False, studio: tuple[str, ...] = ()) -> None:
+    def __init__(self, *words: str, stdin: Any = subprocess.DEVNULL, env: Optional[dict[str, str]] = None,
+            opens: bool = False, studio: tuple[str, ...] = ()) -> None:
         command = [sys.executable, *(studio or self.studio), *["--no-open"] * (not opens), *words]
-        self.process = subprocess.Popen(command, stdin=stdin, stdout=subprocess.PIPE, stderr=subprocess.PIPE, env={**os.environ, **(env or {})})
+        self.process = subprocess.Popen(command, stdin=stdin, stdout=subprocess.PIPE, stderr=subprocess.PIPE,
+            env={**os.environ, **(env or {})})
         assert self.process.stderr is not None
         self.line = self.process.stderr.readline().decode().strip()
         self.address = self.line.partition(": ")[2]

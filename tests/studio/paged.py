@@ -20,7 +20,8 @@ VIEW = {"do": "view", "view": "a", "sink": "out", "width": 16, "span": 16}
 
 
 class Socket:
-    """Takes what a page is sent: it notes the parts of each message, and of each frame from which item to which it goes."""
+    """Takes what a page is sent: it notes the parts of each message, and of each frame from which item to which it
+    goes."""
 
     def __init__(self) -> None:
         self.page: Any = None
@@ -57,7 +58,8 @@ class SlowTrace(Trace):
 def run_of(number: int, trace: Trace, count: int) -> Any:
     """A run whose sink has taken so many items."""
     trace.take(count, [])
-    return types.SimpleNamespace(number=number, log=[], graph=types.SimpleNamespace(shown=dict), traces={"out": trace}, shown=dict)
+    return types.SimpleNamespace(number=number, log=[], graph=types.SimpleNamespace(shown=dict),
+        traces={"out": trace}, shown=dict)
 
 
 def page_of(run: Any) -> tuple[Page, Socket, Any, list[Any]]:
@@ -98,7 +100,8 @@ async def asking_meanwhile() -> None:
 
 
 def asked_meanwhile() -> None:
-    """A view that is asked for while a frame of the one before it is made gets its own frame, also where the run is over."""
+    """A view that is asked for while a frame of the one before it is made gets its own frame, also where the run is
+    over."""
     asyncio.run(asyncio.wait_for(asking_meanwhile(), PATIENCE))
 
 

@@ -82,7 +82,8 @@ def balanced() -> None:
         with stream:
             firings, each = stream.firings, {it.name: stream.rates(it.name) for it in stream.blocks}
             for it in stream.connections if firings else []:
-                given, taken = firings[it.writer] * each[it.writer].gives, firings[it.reader] * each[it.reader].takes[it.in_port]
+                given = firings[it.writer] * each[it.writer].gives
+                taken = firings[it.reader] * each[it.reader].takes[it.in_port]
                 assert given == taken, (path, it, given, taken)
                 count += 1
     assert count > 100, count

@@ -39,7 +39,8 @@ class GraphFile:
             types = {it.name: it.output_type for it in stream.blocks if it.output_type}
             found = ((it.name, stream.setting(it.name)) for it in stream.blocks)
             settings = {name: it for name, it in found if it is not None}
-            connects = [{"from": it.writer, "from_port": it.out_port, "to": it.reader, "to_port": it.in_port} for it in stream.connections]
+            connects = [{"from": it.writer, "from_port": it.out_port, "to": it.reader, "to_port": it.in_port}
+                for it in stream.connections]
             return cls(text, tables_of(text).get("block", []), connects, stream.firings or {}, settings, types)
 
     @classmethod

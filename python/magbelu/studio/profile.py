@@ -82,7 +82,8 @@ class Profile:
                 sums[:] = [KEEPS * of + end - start for of, start, end in zip(sums, starts, ends)]
 
     def _show(self, fills: list[int]) -> None:
-        self.shown = {"blocks": {name: self._block(name) for name in self._outputs}, "fills": [list(it) for it in zip(fills, self._rooms)]}
+        self.shown = {"blocks": {name: self._block(name) for name in self._outputs},
+            "fills": [list(it) for it in zip(fills, self._rooms)]}
 
     def _block(self, name: str) -> dict[str, Any]:
         """The share of a block in the work of all, and how many items it takes and gives for each item that comes
