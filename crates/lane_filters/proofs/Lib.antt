@@ -1,6 +1,7 @@
 pub mod Blocks
 pub mod Capped
 pub mod ByteDifferences
+pub mod IntLanes
 pub mod Lists
 pub mod Neighbours
 pub mod NarrowSums

@@ -188,7 +188,7 @@ even_lanes us = pick_l 0 (us ++ us) (0 ∷ 2 ∷ 4 ∷ 6 ∷ 8 ∷ 10 ∷ 12 ∷
 abbrev odd_lanes : List ℕ → List ℕ
 odd_lanes us = pick_l 0 (us ++ us) (1 ∷ 3 ∷ 5 ∷ 7 ∷ 9 ∷ 11 ∷ 13 ∷ 15 ∷ [])
 
-sixteen_listed : (xs : List ℤ) → 16 ≤ length xs → take 16 xs ≡ item xs 0 ∷ item xs 1 ∷ item xs 2 ∷ item xs 3 ∷ item xs 4 ∷ item xs 5 ∷ item xs 6 ∷ item xs 7 ∷ item xs 8 ∷ item xs 9 ∷ item xs 10 ∷ item xs 11 ∷ item xs 12 ∷ item xs 13 ∷ item xs 14 ∷ item xs 15 ∷ []
+pub sixteen_listed : (xs : List ℤ) → 16 ≤ length xs → take 16 xs ≡ item xs 0 ∷ item xs 1 ∷ item xs 2 ∷ item xs 3 ∷ item xs 4 ∷ item xs 5 ∷ item xs 6 ∷ item xs 7 ∷ item xs 8 ∷ item xs 9 ∷ item xs 10 ∷ item xs 11 ∷ item xs 12 ∷ item xs 13 ∷ item xs 14 ∷ item xs 15 ∷ []
 sixteen_listed (x0 ∷ x1 ∷ x2 ∷ x3 ∷ x4 ∷ x5 ∷ x6 ∷ x7 ∷ x8 ∷ x9 ∷ x10 ∷ x11 ∷ x12 ∷ x13 ∷ x14 ∷ x15 ∷ xs) le = refl
 sixteen_listed [] le = absurd (omega arith)
 sixteen_listed (x0 ∷ []) le = absurd (omega arith)

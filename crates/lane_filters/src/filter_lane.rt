@@ -6,8 +6,8 @@ ghost use Rattle.stream_model.specs.Numbers.{sat, IsItem, AreItems};
 ghost use Rattle.stream_model.specs.declared.vocabulary.ItemType.TheVariants.{Short};
 ghost use Rattle.lane_filters.specs.Words.{AreWithin, IsPlan, output};
 
-use crate::fir::write_wide;
 use crate::halves::{Halves, write_halves};
+use crate::ints::write_ints;
 use crate::pairs::{is_light, write_light};
 use crate::sums::nearest_shorts;
 use numbers::Number;
@@ -140,6 +140,6 @@ impl FilterLane for i32 {
         shift: u32,
         out: &mut [i32],
     ) {
-        write_wide(h, x, at, shift, out);
+        write_ints(h, x, at, shift, out);
     }
 }

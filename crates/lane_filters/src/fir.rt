@@ -69,50 +69,6 @@ fn short_row<T: ProductLane>(h: &[i16], x: &[T], shift: u32, out: &mut [T])
     }
 }
 
-/// Writes 32 outputs by sums in lanes of 64 bits.
-pub(crate) fn write_wide<T: ProductLane>(h: &[i16], x: &[T], at: usize, shift: u32, out: &mut [T])
-    requires taps { 1 ≤ length h.now }
-    requires most { length h.now ≤ 256 }
-    requires shift { shift ≤ 31 }
-    requires room { at + 31 + length h.now ≤ length x.now }
-    requires place { at + 32 ≤ length out.old }
-    requires taps_in_range { AreItems Short h.now }
-    requires items_in_range { All (λ x. IsItem T.kind (T.number x)) x.now }
-    requires done { take at (map T.number out.old) ≡ listed at (output T.kind h.now (map T.number x.now) shift) }
-    ensures { take (at + 32) (map T.number out.new) ≡ listed (at + 32)
-        (output T.kind h.now (map T.number x.now) shift) }
-{
-    for half in 0..2 {
-        let from = at + 16 * half;
-        let (low, high) = wide_sums(h, x, from);
-        T::store(rounded_lanes(low, shift), out, from);
-        T::store(rounded_lanes(high, shift), out, from + 8);
-    }
-}
-
-/// The sums at sixteen outputs in lanes of 64 bits: each tap is read once for them.
-fn wide_sums<T: ProductLane>(h: &[i16], x: &[T], at: usize) -> (i64x8, i64x8)
-    requires taps { 1 ≤ length h.now }
-    requires most { length h.now ≤ 256 }
-    requires room { at + 15 + length h.now ≤ length x.now }
-    requires taps_in_range { AreItems Short h.now }
-    requires items_in_range { All (λ x. IsItem T.kind (T.number x)) x.now }
-    ensures low { result.0 ≡ tap_sums h.now (map T.number x.now) (length h.now) at }
-    ensures high { result.1 ≡ tap_sums h.now (map T.number x.now) (length h.now) (at + 8) }
-    ensures low_within { AreWithin (2 ^ 60) result.0 }
-    ensures high_within { AreWithin (2 ^ 60) result.1 }
-{
-    let mut low = i64x8::splat(0);
-    let mut high = i64x8::splat(0);
-    for j in 0..h.len() {
-        let taps = i16x8::splat(h[j]);
-        let back = h.len() - 1 - j;
-        low = added(low, T::products(taps, &x[at + back..]));
-        high = added(high, T::products(taps, &x[at + 8 + back..]));
-    }
-    (low, high)
-}
-
 /// The sums at eight outputs.
 fn eight_sums<T: ProductLane>(h: &[i16], x: &[T], at: usize) -> i64x8
     requires taps { 1 ≤ length h.now }

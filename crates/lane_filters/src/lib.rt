@@ -7,6 +7,7 @@ pub mod dots;
 pub mod filter_lane;
 pub mod fir;
 mod halves;
+mod ints;
 mod pairs;
 pub mod repacked;
 mod sums;

@@ -3,7 +3,7 @@ ghost use Rattle.std.specs.Prelude.{◌≡◌, ◌+◌, ◌-◌, ◌/◌, ◌≤
 ghost use Rattle.std.specs.Int.RustNames.{unsigned_abs};
 ghost use Rattle.std.specs.Simd.Lanes.{zip2};
 ghost use Rattle.stream_model.specs.Numbers.{rnd, sat, total};
-ghost use Rattle.stream_model.specs.declared.vocabulary.ItemType.TheVariants.{Short};
+ghost use Rattle.stream_model.specs.declared.vocabulary.ItemType.TheVariants.{Short, Int};
 ghost use Rattle.lane_filters.specs.Words.{AreWithin};
 
 use numbers::Number;
@@ -108,6 +108,18 @@ pub(crate) fn nearest_shorts(numbers: i64x8) -> i16x8
         .simd_max(i64x8::splat(-32768))
         .simd_min(i64x8::splat(32767));
     capped.cast::<i16>()
+}
+
+/// Each number, or the nearest that an int is.
+#[inline(always)]
+pub(crate) fn nearest_ints(numbers: i64x8) -> i32x8
+    requires { AreWithin (2 ^ 61) numbers }
+    ensures { result ≡ map (sat Int) numbers }
+{
+    let capped = numbers
+        .simd_max(i64x8::splat(-2147483648))
+        .simd_min(i64x8::splat(2147483647));
+    capped.cast::<i32>()
 }
 
 /// Each number, or the nearest that a short is.

@@ -1,4 +1,4 @@
-use Rattle.std.proofs.Common.{◌≡◌, ℕ, ℤ, ◌+◌, ◌*◌, ◌/◌, ◌<◌, ◌^◌, ◌∙◌, List, ap, sym, map, take, length, arith, w32}
+use Rattle.std.proofs.Common.{◌≡◌, ℕ, ℤ, ◌+◌, ◌*◌, ◌/◌, ◌<◌, ◌^◌, ◌∙◌, List, ap, sym, map, take, length, arith, w16, w32}
 use mir.Val.{of_z, to_z}
 use Rattle.stream_model.specs.Numbers.{AreItems}
 use Rattle.stream_model.specs.declared.vocabulary.ItemType.TheVariants.{Short}
@@ -6,6 +6,7 @@ use Rattle.lane_filters.specs.Words.{spread_sums, weight}
 use Rattle.lane_filters.proofs.NarrowSums.{spread_again, spread_back}
 use Rattle.lane_filters.proofs.Signed.{near_again}
 use Rattle.lane_filters.proofs.SplitTaps.{sums_joined}
+use Rattle.lane_filters.proofs.Capped.{short_sat}
 use Rattle.lane_filters.proofs.Woven.{sixteen_more, wide_lanes_are}
 use Rattle.lane_filters.proofs.halves.write_sixteen.Goals as goal
 
@@ -70,12 +71,12 @@ returns c =
     let at = c.args.at in
     let high_even = c.with_all.ensures.even ∙ ap (λ taps. spread_sums taps x (length taps) at) c.high_taps.ensures.value in
     let low_even = c.with_all-2.ensures.even ∙ ap (λ taps. spread_sums taps x (length taps) at) c.low_taps.ensures.value in
-    let even = wide_lanes_are h x c.args.shift at c.joined.result c.rounded_lanes.result c.nearest_shorts-even.result
+    let even = wide_lanes_are Short h x c.args.shift at c.joined.result c.rounded_lanes.result c.nearest_shorts-even.result
     (sums_joined h c.args.halves.now.high c.args.halves.now.low c.requires.halves x c.requires.most c.requires.items_in_range at c.with_all.result.0 c.with_all-2.result.0 c.joined.result high_even low_even c.joined.ensures.value)
     c.joined.ensures.within c.rounded_lanes.ensures.value c.rounded_lanes.ensures.within c.nearest_shorts-even.ensures in
     let high_odd = c.with_all.ensures.odd ∙ ap (λ taps. spread_sums taps x (length taps) (at + 1)) c.high_taps.ensures.value in
     let low_odd = c.with_all-2.ensures.odd ∙ ap (λ taps. spread_sums taps x (length taps) (at + 1)) c.low_taps.ensures.value in
-    let odd = wide_lanes_are h x c.args.shift (at + 1) c.joined-2.result c.rounded_lanes-2.result c.nearest_shorts-odd.result
+    let odd = wide_lanes_are Short h x c.args.shift (at + 1) c.joined-2.result c.rounded_lanes-2.result c.nearest_shorts-odd.result
     (sums_joined h c.args.halves.now.high c.args.halves.now.low c.requires.halves x c.requires.most c.requires.items_in_range (at + 1) c.with_all.result.1 c.with_all-2.result.1 c.joined-2.result high_odd low_odd c.joined-2.ensures.value)
     c.joined-2.ensures.within c.rounded_lanes-2.ensures.value c.rounded_lanes-2.ensures.within c.nearest_shorts-odd.ensures in
-    sixteen_more h x c.args.shift at c.nearest_shorts-even.result c.nearest_shorts-odd.result c.args.out.now even odd c.requires.place c.requires.done
+    sixteen_more Short w16 short_sat h x c.args.shift at c.nearest_shorts-even.result c.nearest_shorts-odd.result c.args.out.now even odd c.requires.place c.requires.done
