@@ -150,6 +150,34 @@ fn extremes(rt: HostRuntime) -> Result<(), Fail> {
 }
 
 #[test]
+fn apart(rt: HostRuntime) -> Result<(), Fail> {
+    let a = rt.alloc();
+    let trials = Trials::new(&rt, a);
+    // Two states, each of which leads by both symbols to itself. Of 341 steps the symbol 1 of state 0 costs one less
+    // than the greatest int, the symbol 0 the greatest, and both of state 1 the least: no path from state 0 gets there.
+    let mut costs = Vec::new(a);
+    for _ in 0..341 {
+        costs.push(2_147_483_647)?;
+        costs.push(2_147_483_646)?;
+        costs.push(-2_147_483_648)?;
+    }
+    let (ones, zeros) = (ramp(a, 341, 1, 0)?, ramp(a, 341, 0, 0)?);
+    for (end, expected) in [(None, &ones), (Some(0), &ones), (Some(1), &zeros)] {
+        let trellis = Trellis {
+            symbols: 2,
+            next: &[0, 0, 1, 1],
+            outputs: 3,
+            output: &[0, 1, 2, 2],
+            steps: 341,
+            start: Some(0),
+            end,
+        };
+        trials.gives("two states", Viterbi::new(a, Int, &trellis), &costs, expected)?;
+    }
+    Ok(())
+}
+
+#[test]
 fn largest(rt: HostRuntime) -> Result<(), Fail> {
     let a = rt.alloc();
     let trials = Trials::new(&rt, a);

@@ -1,3 +1,4 @@
 pub mod Found
 pub mod Model
 pub mod Same
+pub mod Ways

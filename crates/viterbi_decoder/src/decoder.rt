@@ -2,21 +2,18 @@
 //! the one that is left.
 ghost use Rattle.std.specs.Prelude.{◌≡◌, ◌*◌, ◌<◌, ◌≤◌, ℕ, ℤ, List, Option, length, map, slice_index_or};
 ghost use Rattle.kind_model.specs.Trellis.{IsTrellis, decoded, states_of};
-ghost use Rattle.viterbi_decoder.specs.Found.{trellis, AreSums, AreLastRows, AreRows};
+ghost use Rattle.viterbi_decoder.specs.Found.{trellis};
 
 use numbers::Number;
 
 /// The greatest number of states.
-const STATES: usize = 1_024;
+pub(crate) const STATES: usize = 1_024;
 
-/// The greatest number of steps of a block, each with a row for each state.
-const CHOICES: usize = 16_384;
-
-/// The greatest number of rows.
-const ROWS: usize = 4_096;
+/// The greatest number of choices of a block, one at each step for each state.
+pub(crate) const CHOICES: usize = 16_384;
 
 // Writes zeros, where there is no path.
-fn no_symbols(out: &mut [u8])
+pub(crate) fn no_symbols(out: &mut [u8])
     ensures len { length out.new ≡ length out.old }
     ensures none { (j : ℕ) → j < length out.old → slice_index_or out.new j 0 ≡ 0 }
 {
@@ -85,32 +82,6 @@ impl Decoder {
         u64::from(self.steps) * u64::from(self.outputs)
     }
 
-    // Finds the paths of a block, where two rows lead to each state by going over these.
-    fn find<T: Number>(&self, metrics: &[T], sums: &mut [i64], after: &mut [i64], rows: &mut [u16])
-        requires metrics { length metrics.now ≡ self.now.steps * self.now.outputs }
-        requires long { states_of (trellis_of self.now) ≤ length sums.old }
-        requires long_after { states_of (trellis_of self.now) ≤ length after.old }
-        requires room { self.now.steps * states_of (trellis_of self.now) ≤ length rows.old }
-        requires sums { AreSums (trellis_of self.now) (map T.number metrics.now) 0 sums.old }
-        requires rows { AreRows (trellis_of self.now) rows.old }
-        ensures len { length sums.new ≡ length sums.old }
-        ensures rows_len { length rows.new ≡ length rows.old }
-        ensures sums { AreSums (trellis_of self.now) (map T.number metrics.now) self.now.steps sums.new }
-        ensures last { AreLastRows (trellis_of self.now) (map T.number metrics.now) self.now.steps rows.new }
-        ensures rows { AreRows (trellis_of self.now) rows.new }
-    {
-        let mut counts = [0; STATES];
-        let mut early = [0; STATES];
-        let mut late = [0; STATES];
-        if self.pair(&mut counts, &mut early, &mut late) {
-            let mut from = [0; ROWS];
-            self.list_states(&mut from);
-            self.go_pairs(metrics, &early, &late, &from, sums, after, rows);
-        } else {
-            self.go(metrics, sums, after, rows);
-        }
-    }
-
     /// Writes the symbols of a block of metrics: those of the first of the paths whose metrics have the least sum, and
     /// zeros where no path goes from the known start to the known end.
     pub fn decode<T: Number>(&self, metrics: &[T], out: &mut [u8])
@@ -120,14 +91,13 @@ impl Decoder {
         ensures symbols { (j : ℕ) → j < self.now.steps
             → slice_index_or out.new j 0 ≡ decoded (trellis_of self.now) (map T.number metrics.now) 0 j }
     {
-        let mut sums = [0; STATES];
-        let mut after = [0; STATES];
-        let mut rows = [0; CHOICES];
-        self.begin(&mut sums);
-        self.find(metrics, &mut sums, &mut after, &mut rows);
-        match self.last_state(&sums) {
-            Some(last) => self.trace(&rows, last, out),
-            None => no_symbols(out),
+        let mut counts = [0; STATES];
+        let mut early = [0; STATES];
+        let mut late = [0; STATES];
+        if self.pair(&mut counts, &mut early, &mut late) {
+            self.decode_pairs(metrics, &self.ways(early), &self.ways(late), out);
+        } else {
+            self.decode_rows(metrics, out);
         }
     }
 }

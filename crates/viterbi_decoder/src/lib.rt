@@ -7,5 +7,6 @@ mod pairs;
 mod steps;
 mod sums;
 mod trace;
+mod ways;
 
 pub use decoder::Decoder;

@@ -1,13 +1,17 @@
 //! The sums of the metrics of paths.
 ghost use Rattle.std.specs.Prelude.{◌≡◌, ◌+◌, ◌*◌, ◌/◌, ◌<◌, ◌≤◌, ℕ, ℤ, ◌+ℤ◌, suc, pos, List, None, length, map, slice_index_or, if◌then◌else◌};
-ghost use Rattle.kind_model.specs.Trellis.{states_of, may_be, metric};
-ghost use Rattle.viterbi_decoder.specs.Found.{found, behind, far, sum_in, is_less, IsWithin, IsSum, AreSums};
+ghost use Rattle.stream_model.specs.Lists.{item};
+ghost use Rattle.kind_model.specs.Trellis.{states_of, may_be};
+ghost use Rattle.viterbi_decoder.specs.Found.{found, behind, far, sum_in, is_less, IsWithin, IsNumber, IsSum, AreSums};
 
 use crate::decoder::Decoder;
 use numbers::Number;
 
-/// What stands for the sum of no path: more than the sum of any.
+// What stands for the sum of no path. With the metrics of a block added it is still more than the sum of any.
 const FAR: i64 = 1 << 62;
+
+// More than the sum of any path, and less than what stands for none.
+const BETWEEN: i64 = 1 << 61;
 
 /// Whether a state may be the one that is known.
 fn may_be(known: Option<u32>, state: usize) -> bool
@@ -41,13 +45,13 @@ fn first_sum(start: Option<u32>, state: usize) -> i64
 fn sum_in(sum: i64) -> Option<i64>
     ensures { result ≡ sum_in sum }
 {
-    if sum == FAR { None } else { Some(sum) }
+    if sum < BETWEEN { Some(sum) } else { None }
 }
 
 // The sum with one metric more.
 #[inline(always)]
-fn added(sum: i64, metric: i64) -> i64
-    requires sum { IsWithin 1024 sum }
+pub(crate) fn added(sum: i64, metric: i64) -> i64
+    requires sum { IsNumber sum }
     requires metric { IsWithin 1 metric }
     ensures { result ≡ sum +ℤ metric }
 {
@@ -92,16 +96,16 @@ impl Decoder {
         }
     }
 
-    // The metric of a row's output at a step.
+    // The metric of an output at a step.
     #[inline(always)]
-    fn metric<T: Number>(&self, metrics: &[T], step: usize, row: usize) -> i64
+    pub(crate) fn metric_of<T: Number>(&self, metrics: &[T], step: usize, output: usize) -> i64
         requires metrics { length metrics.now ≡ self.now.steps * self.now.outputs }
         requires step { step < self.now.steps }
-        requires row { row < length self.now.next.items }
-        ensures value { result ≡ metric (trellis_of self.now) (map T.number metrics.now) 0 step row }
+        requires output { output < self.now.outputs }
+        ensures value { result ≡ item (map T.number metrics.now) (0 + step * self.now.outputs + output) }
         ensures within { IsWithin 1 result }
     {
-        metrics[step * self.outputs as usize + usize::from(self.output[row])].widen()
+        metrics[step * self.outputs as usize + output].widen()
     }
 
     // The sum of the path found to the state that a row leads from, with this row behind it.
@@ -117,15 +121,12 @@ impl Decoder {
         requires step { step < self.now.steps }
         requires row { row < length self.now.next.items }
         requires sum { IsSum (trellis_of self.now) (map T.number metrics.now) step
-            (found (trellis_of self.now) (map T.number metrics.now) step (row / self.now.symbols)) (sum_in sum) }
+            (found (trellis_of self.now) (map T.number metrics.now) step (row / self.now.symbols)) sum }
         ensures { IsSum (trellis_of self.now) (map T.number metrics.now) (suc step)
-            (behind (trellis_of self.now) (map T.number metrics.now) step row) (sum_in result) }
+            (behind (trellis_of self.now) (map T.number metrics.now) step row) result }
     {
-        if sum == FAR {
-            FAR
-        } else {
-            added(sum, self.metric(metrics, step, row))
-        }
+        let output = usize::from(self.output[row]);
+        added(sum, self.metric_of(metrics, step, output))
     }
 
     // What the path found to a state that may be the last costs, where there is one.
