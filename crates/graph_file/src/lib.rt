@@ -21,7 +21,7 @@ mod feeds;
 pub mod file;
 mod only;
 mod texts;
-mod validity;
+mod validating;
 
 pub use fault::{FileFault, FilePlace};
 pub use feed::{Feed, FileMark};

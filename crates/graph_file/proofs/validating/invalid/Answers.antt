@@ -4,7 +4,7 @@ use Rattle.graph_file.specs.Blocks.{drafted}
 use Rattle.graph_file.specs.Validity.{named_block}
 use Rattle.graph_file.proofs.BlockNames.{IsUtf8-is_name}
 use Rattle.graph_file.proofs.Validity.{named-inside, only_memory, validated-told}
-use Rattle.graph_file.proofs.validity.invalid.Goals as goal
+use Rattle.graph_file.proofs.validating.invalid.Goals as goal
 
 pub name-requires : goal.name-requires
 name-requires c =
