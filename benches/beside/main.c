@@ -11,6 +11,7 @@
 #include <string.h>
 #include <time.h>
 
+#include "by_hand.h"
 #include "filters.h"
 #include "loops.h"
 #ifdef VOLK
@@ -55,6 +56,10 @@ static struct row rows[] = {
     {"multiply int", multiply_int, 4096, 0, 0, 4096},
     {"maximum byte", maximum, 4096, 0, 0, 4096},
     {"map_bb byte", map_bb, 4096, 0, 0, 4096},
+    {"map_bb byte, 16 entries by hand", map_bb_by_hand, 4096, 16, 0, 4096},
+    {"map_bb byte, 64 entries by hand", map_bb_by_hand, 4096, 64, 0, 4096},
+    {"map_bb byte, 128 entries by hand", map_bb_by_hand, 4096, 128, 0, 4096},
+    {"map_bb byte, 256 entries by hand", map_bb_by_hand, 4096, 256, 0, 4096},
     {"interleave byte 2", interleave, 2048, 0, 0, 4096},
     {"deinterleave byte 2", deinterleave, 2048, 0, 0, 4096},
     {"repeat byte 8", repeat, 512, 8, 0, 4096},
@@ -66,18 +71,38 @@ static struct row rows[] = {
     {"pack_k_bits byte 8", pack_k_bits, 512, 8, 0, 4096},
     {"unpack_k_bits byte 8", unpack_k_bits, 512, 8, 0, 4096},
     {"diff_encoder byte 4", diff_encoder, 4096, 4, 0, 4096},
+    {"diff_encoder byte 4, by hand", diff_encoder_by_hand, 4096, 4, 0, 4096},
     {"diff_encoder byte 10", diff_encoder, 4096, 10, 0, 4096},
     {"scrambler byte 7 bits", scrambler, 4096, 72, 127, 4096},
+    {"scrambler byte 7 bits, by hand", scrambler_by_hand, 4096, 72, 127, 4096},
     {"descrambler byte 7 bits", descrambler, 4096, 72, 127, 4096},
+    {"descrambler byte 7 bits, by hand", descrambler_by_hand, 4096, 72, 127, 4096},
     {"additive_scrambler byte 7 bits", additive_scrambler, 4096, 72, 127, 4096},
+    {"additive_scrambler byte 7 bits, by hand", additive_scrambler_by_hand, 4096, 72, 127, 4096},
     {"viterbi byte 64 states", viterbi, 4, 0, 0, 4096},
-#define FILTERS(taps)                                                                                                                                                    \
-    {"shorts, " #taps " taps, by hand, light", fir_light_by_hand, 1024, taps, LIGHT, 1024}, {"shorts, " #taps " taps, by hand, halves", fir_by_hand, 1024, taps, 1, 1024}, \
-        {"shorts, " #taps " taps", fir_shorts, 1024, taps, 1, 1024}, {"ints, " #taps " taps", fir_ints, 1024, taps, 1, 1024}
+#define FILTERS(taps)                                                         \
+    {"shorts, " #taps " taps, by hand, light", fir_light_by_hand, 1024, taps, LIGHT, 1024}, \
+        {"shorts, " #taps " taps, by hand, halves", fir_by_hand, 1024, taps, 1, 1024},      \
+        {"shorts, " #taps " taps", fir_shorts, 1024, taps, 1, 1024},                        \
+        {"ints, " #taps " taps, by hand", fir_ints_by_hand, 1024, taps, 1, 1024},           \
+        {"ints, " #taps " taps", fir_ints, 1024, taps, 1, 1024}
     FILTERS(8),
     FILTERS(16),
     FILTERS(64),
     FILTERS(256),
+#define KEEPING(taps, q)                                                                                       \
+    {"shorts, " #taps " light taps, one of " #q " by hand", fir_kept_by_lanes, 1024, taps, q, 1024},         \
+        {"shorts, " #taps " light taps, one of " #q " by pairs", fir_kept_by_pairs, 1024, taps, q, 1024},    \
+        {"shorts, " #taps " light taps, one of " #q, fir_kept, 1024, taps, q, 1024}
+    KEEPING(8, 2),
+    KEEPING(8, 8),
+    KEEPING(16, 2),
+    KEEPING(64, 2),
+    KEEPING(64, 8),
+    KEEPING(256, 8),
+    {"shorts, 8 light taps, one of 2 where they lie", fir_halved_by_hand, 1024, 8, 2, 1024},
+    {"shorts, 16 light taps, one of 2 where they lie", fir_halved_by_hand, 1024, 16, 2, 1024},
+    {"shorts, 64 light taps, one of 2 where they lie", fir_halved_by_hand, 1024, 64, 2, 1024},
     {"shorts, a dot of 64", dot_shorts, 64, 0, 0, 1},
     {"ints, a dot of 64", dot_ints, 64, 0, 0, 1},
 #ifdef VOLK
@@ -113,18 +138,36 @@ static double time_of(const struct row *row, long calls) {
     return (now() - start) / (double)calls;
 }
 
-/* Whether the loops by hand give what the plain one does, with shorter rows too. */
+/* Whether a loop by hand gives what a plain one does, of so many bytes. */
+static int is_same(loop *plain, loop *by_hand, size_t count, int p, int q, size_t bytes) {
+    plain(count, p, q, first, second, wanted, other);
+    by_hand(count, p, q, first, second, out, other);
+    return memcmp(wanted, out, bytes) == 0;
+}
+
+/* Whether all of them do: filters with few taps and many, registers of several lengths. */
 static int is_right(void) {
+    static const int masks[] = {72, 65, 1, 64, 0x4001, 0x12000, 0x40000001};
     int right = 1;
     for (int taps = 2; taps <= 256; taps += 2) {
-        fir_shorts(1024, taps, 1, first, second, wanted, other);
-        fir_by_hand(1024, taps, 1, first, second, out, other);
-        right &= memcmp(wanted, out, 2048) == 0;
-        fir_shorts(1024, taps, LIGHT, first, second, wanted, other);
-        fir_light_by_hand(1024, taps, LIGHT, first, second, out, other);
-        right &= memcmp(wanted, out, 2048) == 0;
+        right &= is_same(fir_shorts, fir_by_hand, 1024, taps, 1, 2048);
+        right &= is_same(fir_shorts, fir_light_by_hand, 1024, taps, LIGHT, 2048);
+        right &= is_same(fir_ints, fir_ints_by_hand, 1024, taps, 1, 4096);
+        right &= is_same(fir_kept, fir_halved_by_hand, 1024, taps, 2, 2048);
     }
-    return right;
+    for (int taps = 8; taps <= 256; taps += 8) {
+        right &= is_same(fir_kept, fir_kept_by_lanes, 1024, taps, 5, 2048);
+        right &= is_same(fir_kept, fir_kept_by_pairs, 1024, taps, 5, 2048);
+    }
+    for (size_t k = 0; k < sizeof masks / sizeof masks[0]; k++) {
+        right &= is_same(scrambler, scrambler_by_hand, 4096, masks[k], INT32_MAX, 4096);
+        right &= is_same(descrambler, descrambler_by_hand, 4096, masks[k], INT32_MAX, 4096);
+        right &= is_same(additive_scrambler, additive_scrambler_by_hand, 4096, masks[k], INT32_MAX, 4096);
+    }
+    for (int modulus = 2; modulus <= 256; modulus *= 2) {
+        right &= is_same(diff_encoder, diff_encoder_by_hand, 4096, modulus, 0, 4096);
+    }
+    return right & is_same(map_bb, map_bb_by_hand, 4096, 256, 0, 4096);
 }
 
 int main(void) {
