@@ -12,6 +12,7 @@
 #include <time.h>
 
 #include "by_hand.h"
+#include "choices.h"
 #include "filters.h"
 #include "loops.h"
 #ifdef VOLK
@@ -79,6 +80,19 @@ static struct row rows[] = {
     {"descrambler byte 7 bits, by hand", descrambler_by_hand, 4096, 72, 127, 4096},
     {"additive_scrambler byte 7 bits", additive_scrambler, 4096, 72, 127, 4096},
     {"additive_scrambler byte 7 bits, by hand", additive_scrambler_by_hand, 4096, 72, 127, 4096},
+    {"divide_const short", divide_const, 4096, -7, 0, 4096},
+    {"divide short", divide, 4096, 0, 0, 4096},
+    {"binary_slicer short byte", binary_slicer, 4096, 3, 0, 4096},
+    {"ulaw_encode short byte", ulaw_encode, 4096, 0, 0, 4096},
+    {"alaw_encode short byte", alaw_encode, 4096, 0, 0, 4096},
+    {"frame_minimum short 32", frame_minimum, 128, 32, 0, 4096},
+    {"frame_maximum short 32", frame_maximum, 128, 32, 0, 4096},
+    {"argmax short 32", argmax, 128, 32, 0, 4096},
+    {"pattern short 7", pattern, 4096, 7, 0, 4096},
+    {"counter short 1000", counter, 4096, 1000, 0, 4096},
+    {"crc_append byte 126 16", crc_append, 32, 126, 0, 4096},
+    {"crc_check byte 126 16", crc_check, 32, 126, 0, 4096},
+    {"state_machine byte 2 8", state_machine, 4096, 0, 0, 4096},
     {"viterbi byte 64 states", viterbi, 4, 0, 0, 4096},
 #define FILTERS(taps)                                                         \
     {"shorts, " #taps " taps, by hand, light", fir_light_by_hand, 1024, taps, LIGHT, 1024}, \
