@@ -8,7 +8,7 @@ use settings::Value;
 use std::alloc::Global;
 use std::process::Abort;
 use std::test::Fail;
-use streaming::{BlockNeed, Piece, PlantFault, Settled, Step, StreamingPlant};
+use streaming::{BlockNeed, NoHelpers, Piece, PlantFault, Settled, Step, StreamingPlant};
 
 const SOURCE: BlockId = BlockId(0);
 
@@ -365,5 +365,33 @@ fn settings_that_are_past_are_forgotten(rt: HostRuntime) -> Result<(), Fail> {
     let now = plant.set(MIDDLE, None, Value::Number(1));
     assert!(rt; matches!(now, Ok(at) if at.0 == 2_001), "the next item");
     assert!(rt; plant.settings_in_memory(MIDDLE) == 2 && plant.settings_in_memory(NOBODY) == 0, "both");
+    Ok(())
+}
+
+// One round in which the second of two sinks is held back, if it is; and whether a block moved on.
+fn round(rt: &impl Abort, alloc: Global, plant: &mut StreamingPlant<Kind>, is_held: bool) -> bool {
+    match plant.round_beside(alloc, 3, &[false, false, is_held], &mut NoHelpers) {
+        Ok(moved) => moved,
+        Err(_) => panic!(rt; "no memory"),
+    }
+}
+
+#[test]
+fn blocks_that_are_held_back_rest(rt: HostRuntime) -> Result<(), Fail> {
+    let alloc = rt.alloc();
+    let blocks = [Make::Source, Make::Sink, Make::Sink];
+    let mut plant = streaming(&rt, alloc, &blocks, &[(0, 0, 1, 0), (0, 0, 2, 0)], 4);
+    let fed = plant.feed(SOURCE, &bytes(&rt, alloc, &[5, 6, 7]), &[]);
+    assert!(rt; matches!(fed, Ok(total) if total.0 == 3), "three items");
+    assert!(rt; round(&rt, alloc, &mut plant, true), "the source and a sink move on");
+    assert!(rt; !round(&rt, alloc, &mut plant, true), "only the other sink could");
+    let first = drained(&rt, alloc, &mut plant, MIDDLE, 9);
+    assert!(rt; first.held == 3 && first.items == bytes(&rt, alloc, &[5, 6, 7]), "all");
+    let none = drained(&rt, alloc, &mut plant, SINK, 9);
+    assert!(rt; none.held == 0 && none.items.is_empty(), "nothing was taken");
+    assert!(rt; round(&rt, alloc, &mut plant, false), "it moves on");
+    let other = drained(&rt, alloc, &mut plant, SINK, 9);
+    assert!(rt; other.held == 3 && other.items == bytes(&rt, alloc, &[5, 6, 7]), "all");
+    assert!(rt; !round(&rt, alloc, &mut plant, false), "no block can act");
     Ok(())
 }

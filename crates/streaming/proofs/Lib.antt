@@ -1,3 +1,4 @@
+pub mod Holding
 pub mod Counted
 pub mod Extents
 pub mod Idles

@@ -1,3 +1,4 @@
+pub mod Beside
 pub mod Draining
 pub mod Levels
 pub mod Streaming

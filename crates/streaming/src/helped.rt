@@ -9,6 +9,7 @@ ghost use Rattle.plant.specs.Plant.{IsRight, plant_of};
 ghost use Rattle.plant.specs.Settling.{HasMoved};
 ghost use Rattle.streaming.specs.Working.{IsLedOn};
 
+use crate::beside::is_held;
 use crate::helpers::Helpers;
 use flowgraph::{Block, BlockId};
 use plant::{Claim, Job, Parts, Step, Worked};
@@ -42,15 +43,16 @@ pub(crate) fn helped_round<B: Block, H: Helpers<Job<B>, Worked<B>>>(
     if !moved || !helpers.are_called() {
         return Ok(moved);
     }
-    help(parts, alloc, max, helpers)?;
+    help(parts, alloc, max, &[], helpers)?;
     Ok(moved)
 }
 
-// Lets helpers work, and takes back or gives up all that they were given.
-fn help<B: Block, H: Helpers<Job<B>, Worked<B>>>(
+/// Lets helpers work, and takes back or gives up all that they were given. Blocks that are held back rest.
+pub(crate) fn help<B: Block, H: Helpers<Job<B>, Worked<B>>>(
     parts: &mut Parts<B>,
     alloc: Global,
     max: u32,
+    held: &[bool],
     helpers: &mut H,
 ) -> Result<(), AllocError>
     requires right { IsRight B.meaning parts.old }
@@ -58,7 +60,7 @@ fn help<B: Block, H: Helpers<Job<B>, Worked<B>>>(
     ensures led { IsLedOn B.meaning max parts.old parts.new }
     ensures idle { is_idle (plant_of parts.new).state ≡ true }
 {
-    let looked = look_again(parts, alloc, max, helpers);
+    let looked = look_again(parts, alloc, max, held, helpers);
     take_all_back(parts, helpers);
     give_all_up(parts);
     looked
@@ -69,6 +71,7 @@ fn look_again<B: Block, H: Helpers<Job<B>, Worked<B>>>(
     parts: &mut Parts<B>,
     alloc: Global,
     max: u32,
+    held: &[bool],
     helpers: &mut H,
 ) -> Result<(), AllocError>
     requires right { IsRight B.meaning parts.old }
@@ -76,7 +79,7 @@ fn look_again<B: Block, H: Helpers<Job<B>, Worked<B>>>(
     ensures { IsLedOn B.meaning max parts.old parts.new }
 {
     for _looks in 0..LOOKS {
-        if !look(parts, alloc, max, helpers)? && !take_next(parts, helpers) {
+        if !look(parts, alloc, max, held, helpers)? && !take_next(parts, helpers) {
             return Ok(());
         }
     }
@@ -89,6 +92,7 @@ fn look<B: Block, H: Helpers<Job<B>, Worked<B>>>(
     parts: &mut Parts<B>,
     alloc: Global,
     max: u32,
+    held: &[bool],
     helpers: &mut H,
 ) -> Result<bool, AllocError>
     requires right { IsRight B.meaning parts.old }
@@ -103,24 +107,28 @@ fn look<B: Block, H: Helpers<Job<B>, Worked<B>>>(
             return Ok(false);
         }
         let took = take_done(parts, helpers);
-        let did = act(parts, alloc, *block, max, helpers)?;
+        let did = act(parts, alloc, *block, max, held, helpers)?;
         acted = acted || took || did;
     }
     Ok(acted)
 }
 
-// Steps a block, or gives its work away, and returns whether it did.
+// Steps a block, or gives its work away, and returns whether it did. A block that is held back rests.
 fn act<B: Block, H: Helpers<Job<B>, Worked<B>>>(
     parts: &mut Parts<B>,
     alloc: Global,
     block: BlockId,
     max: u32,
+    held: &[bool],
     helpers: &mut H,
 ) -> Result<bool, AllocError>
     requires right { IsRight B.meaning parts.old }
     requires some { 1 ≤ max }
     ensures { IsLedOn B.meaning max parts.old parts.new }
 {
+    if is_held(held, block) {
+        return Ok(false);
+    }
     match helpers.share(block) {
         Some(share) => give_away(parts, alloc, block, max.min(share.max(1)), helpers),
         None => step(parts, alloc, block, max),

@@ -14,6 +14,7 @@
 //! fed. They are all of it when the sink is done.
 #![tactic(auto)]
 
+mod beside;
 pub mod draining;
 mod forgetting;
 mod helped;

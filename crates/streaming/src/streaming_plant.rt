@@ -25,11 +25,13 @@ ghost use Rattle.plant.specs.Feeding.{feed_numbers};
 ghost use Rattle.plant.specs.Headway.{headway_shown};
 ghost use Rattle.plant.specs.Settling.{StepsLead, HasMoved, HasSettled, HoldsSettled};
 ghost use Rattle.plant.specs.Waits.{need_of, wait_in};
+ghost use Rattle.streaming.specs.Beside.{HasMovedBeside};
 ghost use Rattle.streaming.specs.Draining.{HasRoom, IsAtSink, MayBeRefused, drain_fault, end_of, items_taken, tags_taken};
 ghost use Rattle.streaming.specs.Levels.{levels_at};
 ghost use Rattle.streaming.specs.Streaming.{GoesOn, HasDrainedTo, KeepsNoTaken, StaysBegun, drained, settings_kept, streaming_opening, tags_into, tape_kept};
 ghost use Rattle.streaming.specs.Working.{HasWorked};
 
+use crate::beside::held_round;
 use crate::draining::{Appended, consume, drain, drain_into, peek};
 use crate::forgetting::forget_taken;
 use crate::helped::helped_round;
@@ -258,6 +260,27 @@ impl<B: Block> StreamingPlant<B> {
         ensures taken { IfOk result (λ _. KeepsNoTaken (net_of B.meaning self.new.plant.graph) self.new) }
     {
         let moved = helped_round(&mut self.parts, alloc, max, helpers)?;
+        forget_taken(&mut self.parts);
+        Ok(moved)
+    }
+
+    /// Like `round_with`, but blocks that are held back rest: those at whose number `held` has true. If no block moved
+    /// on, none of the others can, but those that are held back may.
+    pub fn round_beside<H: Helpers<Job<B>, Worked<B>>>(
+        &mut self,
+        alloc: Global,
+        max: u32,
+        held: &[bool],
+        helpers: &mut H,
+    ) -> Result<bool, AllocError>
+        requires { 1 ≤ max }
+        ensures worked { HasWorked B.meaning max self.old.plant self.new.plant }
+        ensures moved { IfOk result (HasMovedBeside held.now (net_of B.meaning self.new.plant.graph)
+            self.new.plant.capacities max self.old.plant.state self.new.plant.state) }
+        ensures sinks { self.new.kept.sinks ≡ self.old.kept.sinks }
+        ensures taken { IfOk result (λ _. KeepsNoTaken (net_of B.meaning self.new.plant.graph) self.new) }
+    {
+        let moved = held_round(&mut self.parts, alloc, max, held, helpers)?;
         forget_taken(&mut self.parts);
         Ok(moved)
     }
