@@ -12,6 +12,8 @@ silent=(
     standard_input
     a_file_beside_a_pipe
     marks_from_a_pipe
+    no_marks_from_a_pipe
+    no_marks_for_pieces
     a_sum_waits
     an_input_that_fails
     done_before_the_end
@@ -131,6 +133,25 @@ marks_from_a_pipe() {
     printf B >&"$to_b" && comes ob 2 && exec {to_m}>&- && printf D >&"$to_a" && comes oa 4 &&
         exec {to_a}>&- {to_b}>&- || return
     ended 0 'sink oa 4\nsink ob 2\ndone\n' && has oa KLMN && has t '@1:k=5/0\n@3:k=6/0\n' && has errors ''
+}
+
+# (no mark comes, and none of the items waits for one; without `until` all of them would, as the last does)
+no_marks_from_a_pipe() {
+    go -i a=a --marks a=m -i b=b -o oa=oa --tags oa=t -o ob=ob "$chains"
+    printf 'until 2\n' >&"$to_m" && printf A >&"$to_a" && comes oa 1 && printf B >&"$to_a" && comes oa 2 &&
+        printf 'until 3\r\nuntil 4\n' >&"$to_m" && printf C >&"$to_a" && comes oa 3 || return
+    printf A >&"$to_b" && comes ob 1 && printf D >&"$to_a" && comes oa 4 && printf E >&"$to_a" && sleep 1 &&
+        comes oa 4 && printf '@4:k=5\n' >&"$to_m" && sleep 1 && comes oa 4 && printf 'until 9\n' >&"$to_m" &&
+        comes oa 5 && comes t 9 && exec {to_a}>&- {to_b}>&- {to_m}>&- || return
+    ended 0 'sink oa 5\nsink ob 1\ndone\n' && has oa KLMNO && has ob K && has t '@4:k=5/0\n' && has errors ''
+}
+
+# (the same of slices on threads, of which a piece may be as long as what was read)
+no_marks_for_pieces() {
+    head -c 100000 /dev/zero >in
+    go --jobs 2 -i src=in --marks src=m -o out=o --tags out=t "$top/tests/graphs/plain.toml"
+    printf '@7:k=1\nuntil 100000\n' >&"$to_m" && comes o 100000 && comes t 9 && exec {to_m}>&- || return
+    ended 0 'sink out 100000\ndone\n' && has t '@7:k=1/0\n' && has errors ''
 }
 
 a_sum_waits() {

@@ -163,13 +163,17 @@ struct Fed {
     fails: bool,
 }
 
-// So many items, with a mark on each third and one more on each twelfth. Behind the mark on item `wrong` stands a line
-// that is none.
+// So many items, with a mark on each third and one more on each twelfth. Below each seventh a line says that no more
+// marks come. Behind the mark on item `wrong` stands a line that is none.
 fn fed(alloc: Global, length: usize, wrong: Option<usize>) -> Result<Fed, Fail> {
     let mut tape = Vec::with_capacity(alloc, length)?;
     let mut marks = Vec::new(alloc);
     for n in 0..length {
         tape.push((n * 7 % 251) as u8)?;
+        if n % 7 == 0 {
+            let line = format!(in alloc; "until {n}\n")?;
+            marks.extend_from_slice(line.as_bytes())?;
+        }
         for every in [3, 12] {
             if n % every == 0 {
                 let line = format!(in alloc; "@{n}:k{every}={n}\n")?;
@@ -424,8 +428,8 @@ fn a_wrong_line_is_told_by_its_number(rt: HostRuntime) -> Result<(), Fail> {
     let alloc = rt.alloc();
     for wrong in [0_usize, 3, 300, 1_998] {
         let fed = fed(alloc, 2_000, Some(wrong))?;
-        // (the marks on the items up to this one, and then the line itself)
-        let line = (wrong / 3 + 1 + wrong / 12 + 1 + 1) as u64;
+        // (the marks on the items up to this one, the lines between them, and then the line itself)
+        let line = (wrong / 3 + 1 + wrong / 12 + 1 + wrong / 7 + 1 + 1) as u64;
         for way in WAYS {
             match in_slices(rt, &fed, way, Taken::new(alloc, u64::MAX))? {
                 Ok((_, Some(PipelineFault::BadMark(_, told)))) => {

@@ -41,6 +41,12 @@ def call(folder, *words):
     return answer.returncode, answer.stdout, answer.stderr
 
 
+def line_of(mark):
+    """The line of a mark. Above some stands one that says that no mark on an item before comes."""
+    above = "until %d\n" % mark[0] if mark[0] % 3 == 0 else ""
+    return above + "@%d:%s=%d\n" % mark
+
+
 def write(folder, graph, rng):
     """The files of a graph: its own, and that of each source, of which some end early, with its marks. Returns the
     words that name the inputs."""
@@ -50,7 +56,7 @@ def write(folder, graph, rng):
         items = fed.items[: rng.choice([len(fed.items), len(fed.items) // 3])]
         folder.joinpath(name).write_bytes(struct.pack("<%d%s" % (len(items), FORMATS[fed.type]), *items))
         marks = [tag for tag in sorted(fed.tags, key=lambda tag: tag[0]) if tag[0] < len(items)]
-        folder.joinpath("%s.marks" % name).write_text("".join("@%d:%s=%d\n" % mark for mark in marks), encoding="utf-8")
+        folder.joinpath("%s.marks" % name).write_text("".join(map(line_of, marks)), encoding="utf-8")
         words += ["-i", "%s=%s" % (name, name)]
     return words
 

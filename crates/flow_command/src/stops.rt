@@ -241,7 +241,7 @@ fn meaning(fault: EndFault) -> &'static str {
         EndFault::Read => "it cannot be read",
         EndFault::Write => "it cannot be written",
         EndFault::CutItem => "it ends within an item of the source's type",
-        EndFault::BadLine(_) => "the line is no @OFFSET:KEY=VALUE",
+        EndFault::BadLine(_) => "the line is neither @OFFSET:KEY=VALUE nor until N",
         EndFault::TagPlace(_) =>
             "the offset is less than that of the line above, or of no item of the input",
     }

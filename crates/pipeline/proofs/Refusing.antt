@@ -1,94 +1,99 @@
 -- Readers of marks that refuse a line.
-use Rattle.std.proofs.Common.{◌≡◌, ℕ, suc, ◌<◌, length, List, [], ◌∷◌, ◌++◌, true, false, map, refl, ap, sym, ◌∙◌, subst, append_assoc, inl, inr, lt-ltb}
+use Rattle.std.proofs.Common.{◌≡◌, ℕ, suc, ◌+◌, ◌<◌, ◌≤◌, arith, length, List, [], ◌∷◌, ◌++◌, true, false, map, refl, ap, sym, ◌∙◌, subst, append_assoc, inl, inr, lt-ltb}
 use Rattle.std.proofs.lemmas.List.{append-nil, map-append}
 use Rattle.std.specs.Prelude.{Option, Some, None, IsSome, Result, Ok, Err, IfErr, OnErr}
-use Rattle.std.specs.Option.{option_to_list}
 use Rattle.std.specs.Io.KnownBytes.{Consumes, IsAtEnd}
 use Rattle.stream_model.specs.Tags.{Mark}
 use Rattle.script_text.specs.Lines.{lines_of, longest_line}
 use Rattle.script_text.specs.Splits.{StartsTooLong}
-use Rattle.script_text.specs.MarkLines.{line_mark, marks_said}
+use Rattle.script_text.specs.MarkLines.{line_mark}
 use Rattle.flowgraph.specs.declared.parts.BlockId.{BlockId}
+use Rattle.pipeline.specs.declared.part.TapePart.{TapePart}
 use Rattle.pipeline.specs.declared.fault.PipelineFault.{PipelineFault}
 use Rattle.pipeline.specs.declared.fault.PipelineFault.TheVariants.{Plant, Joined, NotJoined, Read, CutItem, ReadMarks, BadMark, MarkPlace, WriteItems, WriteTags, Memory}
+use Rattle.pipeline.specs.MarkLines.{Saying, AMark, Until, item_of, saying_held, saying_of, sayings_of, until_of}
 use Rattle.pipeline.specs.Marks.{Gives, Marking, Rise, last_item}
-use Rattle.pipeline.specs.MarkFaults.{IsBehind, IsFirst, IsGivenTo, IsNone, IsOut, NamesFirst, Never, Refuses, Stands, Wrong}
+use Rattle.pipeline.specs.MarkFaults.{IsBehind, IsFirst, IsGivenTo, IsNone, KeepsGiven, IsOut, NamesFirst, Never, Refuses, Stands, Wrong}
 use Rattle.pipeline.proofs.Growing.{consumes_none, consumes_then}
-use Rattle.pipeline.proofs.Telling.{append-one}
+use Rattle.pipeline.proofs.Telling.{append-one, plain}
 
 -- what the first of some lines says, and those below it
-abbrev pub Says : Option Mark → List (Option Mark) → Type 0
-Says said all = (below : List (Option Mark)) × (all ≡ said ∷ below)
+abbrev pub Says : Option Saying → List (Option Saying) → Type 0
+Says said all = (below : List (Option Saying)) × (all ≡ said ∷ below)
 
-too-long-says : (line : List ℕ) → longest_line < length line → line_mark line ≡ None
-too-long-says line long = let is = lt-ltb longest_line (length line) long in rw is refl
+too-long-says : (line : List ℕ) → longest_line < length line → saying_of line ≡ None
+too-long-says line long =
+    let is = lt-ltb longest_line (length line) long in
+    let until : until_of line ≡ None = rw is refl in
+    let mark : line_mark line ≡ None = rw is refl in
+    rw (until, mark) refl
 
-pub long-says : (bytes : List ℕ) → StartsTooLong bytes → Says None (marks_said bytes)
+pub long-says : (bytes : List ℕ) → StartsTooLong bytes → Says None (sayings_of bytes)
 long-says bytes long = (
-  map line_mark long.1,
-  ap (map line_mark) long.2 ∙ ap (λ x. x ∷ map line_mark long.1) (too-long-says long.0 long.3),
+  map saying_of long.1,
+  ap (map saying_of) long.2 ∙ ap (λ x. x ∷ map saying_of long.1) (too-long-says long.0 long.3),
 )
 
-pub line-says : (bytes line : List ℕ) (lines : List (List ℕ)) (said : Option Mark) → lines_of bytes ≡ line ∷ lines → said ≡ line_mark line → Says said (marks_said bytes)
-line-says bytes line lines said is says = (map line_mark lines, ap (map line_mark) is ∙ ap (λ x. x ∷ map line_mark lines) (sym says))
+pub line-says : (bytes line : List ℕ) (lines : List (List ℕ)) (said : Option Saying) → lines_of bytes ≡ line ∷ lines → said ≡ saying_of line → Says said (sayings_of bytes)
+line-says bytes line lines said is says = (map saying_of lines, ap (map saying_of) is ∙ ap (λ x. x ∷ map saying_of lines) (sym says))
 
 -- a fault, and what holds where there is one
 pub if_err_with : {X E Q : Type 0} (r : Result X E) (P S : E → Type 0) → OnErr r Q → IfErr r P → (Q → (e : E) → P e → S e) → IfErr r S
 if_err_with (Ok x) P S q p f = tt
 if_err_with (Err e) P S q p f = f q e p
 
-rise-front : (n : ℕ) (marks more : List Mark) → Rise n (marks ++ more) → Rise n marks
+rise-front : (n : ℕ) (above more : List Saying) → Rise n (above ++ more) → Rise n above
 rise-front n [] more rise = tt
-rise-front n (m ∷ marks) more rise = (rise.0, rise-front m.offset marks more rise.1)
+rise-front n (s ∷ above) more rise = (rise.0, rise-front (item_of s) above more rise.1)
 
 module _ {R : Type 0} (remaining : R → Option (List ℕ)) where
-  -- the line behind those of the marks that were given on
-  pub next-first : (m m' : Marking R) (said : Option Mark) (wrong : Wrong) (n : ℕ) → m.is_over ≡ false → m.held ≡ None →
-      ((more : List ℕ) → (m'.is_over ≡ true → more ≡ []) → Says said (marks_said (m.rest ++ more))) → (m'.is_over ≡ true → IsAtEnd (remaining m'.reader)) →
-      Consumes (remaining m.reader) (remaining m'.reader) [] → n ≡ suc m.taken → ((above : List Mark) → m.least ≡ last_item 0 above → wrong above said) → IsFirst remaining m m' wrong n
+  -- the line behind those that were taken
+  pub next-first : (m m' : Marking R) (said : Option Saying) (wrong : Wrong) (n : ℕ) → m.is_over ≡ false → m.held ≡ None →
+      ((more : List ℕ) → (m'.is_over ≡ true → more ≡ []) → Says said (sayings_of (m.rest ++ more))) → (m'.is_over ≡ true → IsAtEnd (remaining m'.reader)) →
+      Consumes (remaining m.reader) (remaining m'.reader) [] → n ≡ suc m.taken → ((above : List Saying) → m.least ≡ last_item 0 above → wrong above said) → IsFirst remaining m m' wrong n
   next-first m m' said wrong n goes_on none says at read number is = record {
     bytes = [];
     read = read;
     line = λ before given told.
-        let same : given ++ option_to_list m.held ≡ given = ap (λ h. given ++ option_to_list h) none ∙ append-nil given in (
-          given,
+        let same = plain told.above m.held none in (
+          told.above,
           said,
           record {
             lines = λ more nothing. (
               (says more nothing).0,
               rw (append-nil before)
-                  (told.lines more (λ e. absurd (cc (e, goes_on))) ∙ ap (λ zs. map Some zs ++ marks_said (m.rest ++ more)) same ∙ ap (λ ws. map Some given ++ ws) (says more nothing).1),
+                  (told.lines more (λ e. absurd (cc (e, goes_on))) ∙ ap (λ zs. map Some zs ++ sayings_of (m.rest ++ more)) same ∙ ap (λ ws. map Some told.above ++ ws) (says more nothing).1),
             );
             at_end = at;
             rise = subst (Rise 0) same told.rise.0;
           },
           number ∙ ap suc (told.counted goes_on ∙ ap length same),
-          is given (told.rise.1 ∙ ap (last_item 0) same),
+          is told.above (told.rise.1 ∙ ap (last_item 0) same),
         );
   }
 
   -- the line of the mark that is held
-  pub held-first : (m : Marking R) (mark : Mark) (wrong : Wrong) → m.held ≡ Some mark → ((above : List Mark) → wrong above (Some mark)) → IsFirst remaining m m wrong m.line
+  pub held-first : (m : Marking R) (mark : Mark) (wrong : Wrong) → m.held ≡ Some mark → ((above : List Saying) → wrong above (Some (AMark mark))) → IsFirst remaining m m wrong m.line
   held-first m mark wrong held is = record {
     bytes = [];
     read = consumes_none (remaining m.reader);
     line = λ before given told.
-        let same : given ++ option_to_list m.held ≡ given ++ mark ∷ [] = ap (λ h. given ++ option_to_list h) held in (
-          given,
-          Some mark,
+        let same : told.above ++ saying_held m.held ≡ told.above ++ AMark mark ∷ [] = ap (λ h. told.above ++ saying_held h) held in (
+          told.above,
+          Some (AMark mark),
           record {
             lines = λ more nothing. (
-              marks_said (m.rest ++ more),
+              sayings_of (m.rest ++ more),
               rw (append-nil before)
-                  (told.lines more nothing ∙ ap (λ zs. map Some zs ++ marks_said (m.rest ++ more)) same
-                  ∙ ap (λ zs. zs ++ marks_said (m.rest ++ more)) (map-append Some given (mark ∷ []))
-                  ∙ append_assoc (map Some given) (Some mark ∷ []) (marks_said (m.rest ++ more))),
+                  (told.lines more nothing ∙ ap (λ zs. map Some zs ++ sayings_of (m.rest ++ more)) same
+                  ∙ ap (λ zs. zs ++ sayings_of (m.rest ++ more)) (map-append Some told.above (AMark mark ∷ []))
+                  ∙ append_assoc (map Some told.above) (Some (AMark mark) ∷ []) (sayings_of (m.rest ++ more))),
             );
             at_end = told.at_end;
-            rise = rise-front 0 given (mark ∷ []) (subst (Rise 0) same told.rise.0);
+            rise = rise-front 0 told.above (AMark mark ∷ []) (subst (Rise 0) same told.rise.0);
           },
-          told.numbered (rw held refl) ∙ ap length same ∙ append-one given mark,
-          is given,
+          told.numbered (rw held refl) ∙ ap length same ∙ append-one told.above (AMark mark),
+          is told.above,
         );
   }
 
@@ -101,17 +106,18 @@ module _ {R : Type 0} (remaining : R → Option (List ℕ)) where
         (it.0, it.1, subst (λ (bs : List ℕ). Stands remaining m bs it.0 it.1) (append_assoc before gives.bytes first.bytes) it.2, it.3, it.4);
   }
 
-  first-weaker : (k m : Marking R) (wrong wrong' : Wrong) (n : ℕ) → ((above : List Mark) (said : Option Mark) → wrong above said → wrong' above said) → IsFirst remaining k m wrong n → IsFirst remaining k m wrong' n
+  first-weaker : (k m : Marking R) (wrong wrong' : Wrong) (n : ℕ) → ((above : List Saying) (said : Option Saying) → wrong above said → wrong' above said) → IsFirst remaining k m wrong n → IsFirst remaining k m wrong' n
   first-weaker k m wrong wrong' n weaker first = record {
     bytes = first.bytes;
     read = first.read;
     line = λ before given told. let it = first.line before given told in (it.0, it.1, it.2, it.3, weaker it.0 it.1 it.4);
   }
 
-  out-weaker : (P Q : Mark → Type 0) → ((mark : Mark) → P mark → Q mark) → (above : List Mark) (said : Option Mark) → IsOut P above said → IsOut Q above said
+  out-weaker : (P Q : Mark → Type 0) → ((mark : Mark) → P mark → Q mark) → (above : List Saying) (said : Option Saying) → IsOut P above said → IsOut Q above said
   out-weaker P Q f above None out = out
-  out-weaker P Q f above (Some mark) (inl falls) = inl falls
-  out-weaker P Q f above (Some mark) (inr barred) = inr (f mark barred)
+  out-weaker P Q f above (Some (AMark mark)) (inl falls) = inl falls
+  out-weaker P Q f above (Some (AMark mark)) (inr barred) = inr (f mark barred)
+  out-weaker P Q f above (Some (Until n)) falls = falls
 
   module _ (P Q : Mark → Type 0) (f : (mark : Mark) → P mark → Q mark) (k l m : Marking R) (xs : List Mark) (gives : Gives remaining k l xs) where
     -- what was given on before, and a mark may be barred for more reasons
@@ -133,19 +139,27 @@ module _ {R : Type 0} (remaining : R → Option (List ℕ)) where
   held-names Barred k m mark b xs gives held barred = first-then k m m xs (IsOut Barred) m.line gives (held-first m mark (IsOut Barred) held (λ above. inr barred))
 
   -- or since all that may be given on was
-  pub left-names : (k m : Marking R) (b : BlockId) (left : Option Mark) (xs : List Mark) → Gives remaining k m xs → m.held ≡ left → IsSome left → ((n : ℕ) → IsGivenTo n k → m ≡ k) → NamesFirst remaining (IsBehind k) k m (MarkPlace b m.line)
-  left-names k m b None xs gives held some same = absurd (cc some)
-  left-names k m b (Some mark) xs gives held some same =
-      held-names (IsBehind k) k m mark b xs gives held (λ n up. up.held mark (sym (ap Marking.held (same n up)) ∙ held))
+  pub left-names : (k m : Marking R) (b : BlockId) (left : Option Mark) (xs : List Mark) → Gives remaining k m xs → m.held ≡ left → IsSome left → KeepsGiven k m → NamesFirst remaining (IsBehind k) k m (MarkPlace b m.line)
+  left-names k m b None xs gives held some keeps = absurd (cc some)
+  left-names k m b (Some mark) xs gives held some keeps =
+      held-names (IsBehind k) k m mark b xs gives held (λ n up.
+      let low = (keeps n up).held mark held in
+      let here : m.part.origin ≡ k.part.origin = ap TapePart.origin gives.part in
+      omega (arith, low, here))
+
+  -- a line that falls is out of its place
+  falls-out : (P : Mark → Type 0) (said : Saying) (above : List Saying) → item_of said < last_item 0 above → IsOut P above (Some said)
+  falls-out P (AMark mark) above falls = inl falls
+  falls-out P (Until n) above falls = falls
 
   -- the line that comes next is refused
   module _ (m m' : Marking R) (n : ℕ) (goes_on : m.is_over ≡ false) (none : m.held ≡ None) (at : m'.is_over ≡ true → IsAtEnd (remaining m'.reader))
       (read : Consumes (remaining m.reader) (remaining m'.reader) []) (number : n ≡ suc m.taken) where
-    pub refused-names : (said : Option Mark) → ((more : List ℕ) → (m'.is_over ≡ true → more ≡ []) → Says said (marks_said (m.rest ++ more))) →
+    pub refused-names : (said : Option Saying) → ((more : List ℕ) → (m'.is_over ≡ true → more ≡ []) → Says said (sayings_of (m.rest ++ more))) →
         (fault : PipelineFault) → Refuses m.least n said fault → NamesFirst remaining Never m m' fault
     refused-names None says (BadMark b k) refuses = next-first m m' None IsNone k goes_on none says at read (refuses ∙ number) (λ above least. refl)
-    refused-names (Some mark) says (MarkPlace b k) refuses =
-        next-first m m' (Some mark) (IsOut Never) k goes_on none says at read (refuses.0 ∙ number) (λ above least. inl (subst (λ i. mark.offset < i) least refuses.1))
+    refused-names (Some said) says (MarkPlace b k) refuses =
+        next-first m m' (Some said) (IsOut Never) k goes_on none says at read (refuses.0 ∙ number) (λ above least. falls-out Never said above (subst (λ i. item_of said < i) least refuses.1))
     refused-names None says (Plant b refused) refuses = tt
     refused-names None says (Joined b) refuses = tt
     refused-names None says (NotJoined b) refuses = tt
@@ -156,13 +170,13 @@ module _ {R : Type 0} (remaining : R → Option (List ℕ)) where
     refused-names None says (WriteItems b error) refuses = tt
     refused-names None says (WriteTags b error) refuses = tt
     refused-names None says Memory refuses = tt
-    refused-names (Some mark) says (Plant b refused) refuses = tt
-    refused-names (Some mark) says (Joined b) refuses = tt
-    refused-names (Some mark) says (NotJoined b) refuses = tt
-    refused-names (Some mark) says (Read b error) refuses = tt
-    refused-names (Some mark) says (CutItem b) refuses = tt
-    refused-names (Some mark) says (ReadMarks b error) refuses = tt
-    refused-names (Some mark) says (BadMark b k) refuses = absurd refuses
-    refused-names (Some mark) says (WriteItems b error) refuses = tt
-    refused-names (Some mark) says (WriteTags b error) refuses = tt
-    refused-names (Some mark) says Memory refuses = tt
+    refused-names (Some said) says (Plant b refused) refuses = tt
+    refused-names (Some said) says (Joined b) refuses = tt
+    refused-names (Some said) says (NotJoined b) refuses = tt
+    refused-names (Some said) says (Read b error) refuses = tt
+    refused-names (Some said) says (CutItem b) refuses = tt
+    refused-names (Some said) says (ReadMarks b error) refuses = tt
+    refused-names (Some said) says (BadMark b k) refuses = absurd refuses
+    refused-names (Some said) says (WriteItems b error) refuses = tt
+    refused-names (Some said) says (WriteTags b error) refuses = tt
+    refused-names (Some said) says Memory refuses = tt

@@ -37,9 +37,9 @@ text_of (Plant b fault) = Some (plants.text_of fault)
 text_of (Joined b) = Some (codes "the block is joined already")
 text_of (NotJoined b) = Some (codes "the block is joined to no reader of items")
 text_of (CutItem b) = Some (codes "the input ends within an item")
-text_of (BadMark b line) = Some (codes "line " ++ decimal line ++ codes " of the marks is no mark")
-text_of (MarkPlace b line) = Some (codes "the mark in line " ++ decimal line
-    ++ codes " is on no item that it may be on")
+text_of (BadMark b line) = Some (codes "line " ++ decimal line ++ codes " of the marks is no such line")
+text_of (MarkPlace b line) = Some (codes "line " ++ decimal line
+    ++ codes " of the marks is of no item that it may be of")
 text_of Memory = Some (codes "out of memory")
 text_of _ = None
 
@@ -60,7 +60,7 @@ IsOfReader remaining b i (BadMark c line) = (c ≡ b) × IsSome i.marks
 IsOfReader remaining b i (MarkPlace c line) = (c ≡ b) × IsSome i.marks
 IsOfReader remaining b i _ = ⊥
 
--- a fault of a reader of marks: it failed, a line is no mark, or a mark is on no item that it may be on
+-- a fault of a reader of marks: it failed, a line says nothing that it may, or is of no item that it may be of
 abbrev pub IsOfMarks : BlockId → PipelineFault → Type 0
 IsOfMarks b Memory = ⊤
 IsOfMarks b (ReadMarks c error) = c ≡ b

@@ -1,4 +1,5 @@
 pub mod Parts
+pub mod MarkLines
 pub mod Marks
 pub mod MarkFaults
 pub mod Ends

@@ -2,23 +2,24 @@
 use Rattle.std.specs.Prelude.{ℕ, suc, ◌≡◌, ◌+◌, ◌<◌, ◌≤◌, ◌⊎◌, ⊤, List, [], ◌∷◌, ◌++◌, true, map, length, Option, Some, None}
 use Rattle.std.specs.Io.KnownBytes.{Consumes, IsAtEnd}
 use Rattle.stream_model.specs.Tags.{Mark}
-use Rattle.script_text.specs.MarkLines.{marks_said}
 use Rattle.pipeline.specs.declared.fault.PipelineFault.{PipelineFault}
 use Rattle.pipeline.specs.declared.fault.PipelineFault.TheVariants.{BadMark, MarkPlace}
+use Rattle.pipeline.specs.MarkLines.{Saying, AMark, Until, item_of, sayings_of}
 use Rattle.pipeline.specs.Marks.{HasTold, Marking, Rise, last_item}
 
--- of these bytes, all that the reader gave, the first lines say these marks, in the order of their items, and the line
--- below them says this, where it is a mark: whatever bytes follow, of which there are none where the reader has no more
-pub record Stands {R : Type 0} (remaining : R → Option (List ℕ)) (m : Marking R) (bytes : List ℕ) (above : List Mark)
-    (said : Option Mark) : Type 0 where
-  pub lines : (more : List ℕ) → (m.is_over ≡ true → more ≡ []) → (below : List (Option Mark))
-      × (marks_said (bytes ++ more) ≡ map Some above ++ said ∷ below)
+-- of these bytes, all that the reader gave, the first lines say these, in the order of their items, and the line below
+-- them says this, where it says what it may: whatever bytes follow, of which there are none where the reader has no
+-- more
+pub record Stands {R : Type 0} (remaining : R → Option (List ℕ)) (m : Marking R) (bytes : List ℕ)
+    (above : List Saying) (said : Option Saying) : Type 0 where
+  pub lines : (more : List ℕ) → (m.is_over ≡ true → more ≡ []) → (below : List (Option Saying))
+      × (sayings_of (bytes ++ more) ≡ map Some above ++ said ∷ below)
   pub at_end : m.is_over ≡ true → IsAtEnd (remaining m.reader)
   pub rise : Rise 0 above
 
--- what is wrong with a line, by the marks above it and what it says
+-- what is wrong with a line, by what those above it say and what it says
 abbrev pub Wrong : Type 1
-Wrong = List Mark → Option Mark → Type 0
+Wrong = List Saying → Option Saying → Type 0
 
 -- the reader was read, and of all that it gave line n, from 1, is the first that is wrong
 pub record IsFirst {R : Type 0} (remaining : R → Option (List ℕ)) (old new : Marking R) (wrong : Wrong) (n : ℕ) : Type 0
@@ -26,17 +27,18 @@ pub record IsFirst {R : Type 0} (remaining : R → Option (List ℕ)) (old new :
     pub bytes : List ℕ
     pub read : Consumes (remaining old.reader) (remaining new.reader) bytes
     pub line : (before : List ℕ) (given : List Mark) → HasTold remaining old before given →
-        (above : List Mark) × (said : Option Mark) × Stands remaining new (before ++ bytes) above said
+        (above : List Saying) × (said : Option Saying) × Stands remaining new (before ++ bytes) above said
         × (n ≡ suc (length above)) × wrong above said
 
--- it is no mark
+-- it says nothing that it may
 abbrev pub IsNone : Wrong
 IsNone above said = said ≡ None
 
--- its mark is on an item before that of the last mark above it, or on one on which none may be
+-- its item is before that of the last line above it, or it is a mark on one on which none may be
 abbrev pub IsOut : (Mark → Type 0) → Wrong
 IsOut Barred above None = ⊥
-IsOut Barred above (Some mark) = (mark.offset < last_item 0 above) ⊎ Barred mark
+IsOut Barred above (Some (AMark mark)) = (mark.offset < last_item 0 above) ⊎ Barred mark
+IsOut Barred above (Some (Until n)) = n < last_item 0 above
 
 -- a refusal names the first line that is wrong
 abbrev pub NamesFirst : {R : Type 0} → (R → Option (List ℕ)) → (Mark → Type 0) → (old new : Marking R) → PipelineFault
@@ -53,11 +55,20 @@ IsBefore n m mark = (m.part.origin ≤ mark.offset) × (mark.offset < m.part.ori
 abbrev pub IsWithin : (start end : ℕ) → Mark → Type 0
 IsWithin start end mark = (start ≤ mark.offset) × (mark.offset < end)
 
+-- behind the lines that were read no mark on an item below this one of the part comes, or where none is named, no line
+abbrev pub Reaches : {R : Type 0} → Option ℕ → Marking R → Type 0
+Reaches None m = m.is_over ≡ true
+Reaches (Some n) m = (m.is_over ≡ true) ⊎ (m.part.origin + n ≤ m.least)
+
 -- each mark on an item below n of the part was given on, or passed over: the one that is held is on none of these, and
 -- where none is held, none comes any more
 pub record IsGivenTo {R : Type 0} (n : ℕ) (m : Marking R) : Type 0 where
   pub held : (mark : Mark) → m.held ≡ Some mark → m.part.origin + n ≤ mark.offset
-  pub none : m.held ≡ None → m.is_over ≡ true
+  pub none : m.held ≡ None → Reaches (Some n) m
+
+-- it stays so for each item for which it was so
+abbrev pub KeepsGiven : {R : Type 0} → (old new : Marking R) → Type 0
+KeepsGiven old new = (n : ℕ) → IsGivenTo n old → IsGivenTo n new
 
 -- its item is none of those up to which all marks were given on
 abbrev pub IsBehind : {R : Type 0} → Marking R → Mark → Type 0
@@ -74,10 +85,10 @@ pub record Passes {R : Type 0} (old new : Marking R) : Type 0 where
   pub before : mark.offset < old.part.origin
   pub passed : new ≡ record old { held = None }
 
--- why the mark that line n says is not held
-abbrev pub Refuses : ℕ → ℕ → Option Mark → PipelineFault → Type 0
+-- why what line n says is refused
+abbrev pub Refuses : ℕ → ℕ → Option Saying → PipelineFault → Type 0
 Refuses least n None (BadMark b k) = k ≡ n
-Refuses least n (Some mark) (MarkPlace b k) = (k ≡ n) × (mark.offset < least)
+Refuses least n (Some said) (MarkPlace b k) = (k ≡ n) × (item_of said < least)
 Refuses least n said _ = ⊥
 
 -- the same of a reader of marks where there is one

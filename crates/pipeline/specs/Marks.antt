@@ -1,16 +1,15 @@
 -- Marks that come as the lines of a reader.
 use Rattle.std.specs.Prelude.{ℕ, ◌≡◌, ◌≤◌, List, [], ◌∷◌, ◌++◌, length, Bool, true, false, map, ⊤, Option, Some, None, IsSome}
-use Rattle.std.specs.Option.{option_to_list}
 use Rattle.std.specs.Io.KnownBytes.{Consumes, IsAtEnd}
 use Rattle.stream_model.specs.Tags.{Mark, Tag}
 use Rattle.stream_model.specs.Machine.{tag_of}
-use Rattle.script_text.specs.MarkLines.{marks_said}
 use Rattle.pipeline.specs.declared.part.TapePart.{TapePart}
+use Rattle.pipeline.specs.MarkLines.{Saying, item_of, marks_among, saying_held, sayings_of}
 use Rattle.pipeline.specs.Parts.{marks_behind}
 
 -- a reader of marks: whether a read of it failed, what was read of which no line was taken, how many lines with a line
--- feed were taken, the mark that was read and not given yet, whether the reader has no more, the number of the line of
--- the mark that was read last, and its item on the whole tape, of which the source is fed this part
+-- feed were taken, the mark that was read and not given yet, whether the reader has no more, the number of the line
+-- that was taken last, and its item on the whole tape, of which the source is fed this part
 pub record Marking (R : Type 0) : Type 0 where
   pub reader : R
   pub has_failed : Bool
@@ -36,36 +35,38 @@ unread part reader = record {
   part = part;
 }
 
--- marks in the order of their items, of which the first is not before item n
-abbrev pub Rise : ℕ → List Mark → Type 0
+-- sayings in the order of their items, of which the first is not before item n
+abbrev pub Rise : ℕ → List Saying → Type 0
 Rise n [] = ⊤
-Rise n (mark ∷ marks) = (n ≤ mark.offset) × Rise mark.offset marks
+Rise n (said ∷ more) = (n ≤ item_of said) × Rise (item_of said) more
 
 -- the item of the last of them, or n where there is none
-abbrev pub last_item : ℕ → List Mark → ℕ
+abbrev pub last_item : ℕ → List Saying → ℕ
 last_item n [] = n
-last_item n (mark ∷ marks) = last_item mark.offset marks
+last_item n (said ∷ more) = last_item (item_of said) more
 
--- marks in the order of their items, of which the last is on item n, which is 0 where there is none
-abbrev pub RiseTo : ℕ → List Mark → Type 0
-RiseTo n marks = Rise 0 marks × (n ≡ last_item 0 marks)
+-- sayings in the order of their items, of which the last is of item n, which is 0 where there is none
+abbrev pub RiseTo : ℕ → List Saying → Type 0
+RiseTo n sayings = Rise 0 sayings × (n ≡ last_item 0 sayings)
 
--- a mark, where there is one, is not before item n, and its item is k
-abbrev pub Follows : ℕ → Option Mark → ℕ → Type 0
+-- a saying, where there is one, is not before item n, and its item is k
+abbrev pub Follows : ℕ → Option Saying → ℕ → Type 0
 Follows n None k = k ≡ n
-Follows n (Some mark) k = (n ≤ mark.offset) × (k ≡ mark.offset)
+Follows n (Some said) k = (n ≤ item_of said) × (k ≡ item_of said)
 
--- of these bytes, all that the reader gave, the lines say the marks that were given on or passed over and then the one
--- that is held, and the rest is behind them: whatever bytes follow, of which there are none where the reader has no
--- more. They are in the order of their items, and their lines are counted
+-- of these bytes, all that the reader gave, the lines say first what stands above: the marks there were given on or
+-- passed over, and no others. Then comes the mark that is held, and the rest is behind it: whatever bytes follow, of
+-- which there are none where the reader has no more. The lines are in the order of their items, and counted
 pub record HasTold {R : Type 0} (remaining : R → Option (List ℕ)) (m : Marking R) (bytes : List ℕ) (given : List Mark) :
     Type 0 where
-  pub lines : (more : List ℕ) → (m.is_over ≡ true → more ≡ []) → marks_said (bytes ++ more)
-      ≡ map Some (given ++ option_to_list m.held) ++ marks_said (m.rest ++ more)
+  pub above : List Saying
+  pub marks : marks_among above ≡ given
+  pub lines : (more : List ℕ) → (m.is_over ≡ true → more ≡ []) → sayings_of (bytes ++ more)
+      ≡ map Some (above ++ saying_held m.held) ++ sayings_of (m.rest ++ more)
   pub at_end : m.is_over ≡ true → IsAtEnd (remaining m.reader)
-  pub rise : RiseTo m.least (given ++ option_to_list m.held)
-  pub counted : m.is_over ≡ false → m.taken ≡ length (given ++ option_to_list m.held)
-  pub numbered : IsSome m.held → m.line ≡ length (given ++ option_to_list m.held)
+  pub rise : RiseTo m.least (above ++ saying_held m.held)
+  pub counted : m.is_over ≡ false → m.taken ≡ length (above ++ saying_held m.held)
+  pub numbered : IsSome m.held → m.line ≡ length (above ++ saying_held m.held)
 
 -- the reader was read, and gave on these marks, or passed them over
 pub record Gives {R : Type 0} (remaining : R → Option (List ℕ)) (old new : Marking R) (marks : List Mark) : Type 0 where

@@ -26,9 +26,10 @@ pub enum PipelineFault {
     CutItem(BlockId),
     /// The reader of its marks failed.
     ReadMarks(BlockId, io::Error),
-    /// The line of this number, from 1, of its marks is no mark.
+    /// The line of this number, from 1, of its marks is neither a mark nor `until` an item.
     BadMark(BlockId, u64),
-    /// The mark in the line of this number lies before that of the line above, or on no item that its reader gives.
+    /// The item of the line of this number lies before that of the line above, or it is a mark on no item that its reader
+    /// gives.
     MarkPlace(BlockId, u64),
     /// The writer of its items failed.
     WriteItems(BlockId, io::Error),
@@ -78,9 +79,15 @@ impl fmt::Display for PipelineFault {
             PipelineFault::NotJoined(_) => f.write_str("the block is joined to no reader of items"),
             PipelineFault::Read(_, error) => write!(f, "reading failed: {error}"),
             PipelineFault::ReadMarks(_, error) => write!(f, "reading marks failed: {error}"),
-            PipelineFault::BadMark(_, line) => write!(f, "line {line} of the marks is no mark"),
+            PipelineFault::BadMark(_, line) => write!(
+                f,
+                "line {line} of the marks is no such line"
+            ),
             PipelineFault::MarkPlace(_, line) => {
-                write!(f, "the mark in line {line} is on no item that it may be on")
+                write!(
+                    f,
+                    "line {line} of the marks is of no item that it may be of"
+                )
             }
             PipelineFault::WriteItems(_, error) => write!(f, "writing items failed: {error}"),
             PipelineFault::WriteTags(_, error) => write!(f, "writing tags failed: {error}"),

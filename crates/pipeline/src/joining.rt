@@ -76,8 +76,8 @@ impl<B: Block, R: Read + Drop, W: Write + Drop> Pipeline<B, R, W> {
         self.join(source, End::Input(Input::new(alloc, item, order, reader)))
     }
 
-    /// Marks the items of a source as the lines of a reader say: each is a mark `@OFFSET:KEY=VALUE`, in the order of
-    /// their items. Refusals: `NotJoined` for a block without a reader of items, `Joined` for one with a reader of
+    /// Marks the items of a source as the lines of a reader say: each is a mark `@OFFSET:KEY=VALUE`, or `until N` where
+    /// no mark below item N comes any more, in the order of their items. Refusals: `NotJoined` for a block without a reader of items, `Joined` for one with a reader of
     /// marks, and a lack of memory. Then nothing changes.
     pub fn mark_from(
         &mut self,

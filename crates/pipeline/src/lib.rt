@@ -28,6 +28,8 @@ pub mod fault;
 mod hearing;
 mod intake;
 mod joining;
+pub mod mark_line;
+mod mark_reading;
 mod marks;
 pub mod part;
 pub mod pipeline;
@@ -37,6 +39,7 @@ mod tracked;
 
 pub use end::{End, Input, Output};
 pub use fault::PipelineFault;
+pub use mark_line::MarkLine;
 pub use marks::MarkReader;
 pub use part::{StreamPart, TapePart};
 pub use pipeline::Pipeline;

@@ -1,15 +1,13 @@
 //! The marks of a source, read as lines.
 
-ghost use Rattle.std.specs.Prelude.{◌≡◌, ℕ, suc, ◌+◌, ◌-◌, ◌^◌, ◌<◌, ◌≤◌, true, false, [], ◌++◌, map, length, None, Some, IsSome, IfErr, IfOk, OnOk, OnErr};
+ghost use Rattle.std.specs.Prelude.{◌≡◌, ℕ, ◌≤◌, true, false, [], None, Some, IsSome, IfErr, IfOk, OnOk, OnErr};
 ghost use Rattle.std.specs.List.{All};
 ghost use Rattle.std.specs.Option.{option_map};
-ghost use Rattle.std.specs.Io.KnownBytes.{IsAtEnd};
 ghost use Rattle.stream_model.specs.Tags as model;
 ghost use Rattle.script_text.specs.Commands.{mark_seen, marks_seen};
-ghost use Rattle.script_text.specs.Splits.{IsUnfinished};
 ghost use Rattle.pipeline.specs.Faults.{IsOfMarks, NotesMarks};
-ghost use Rattle.pipeline.specs.MarkFaults.{AreGivenTo, IsBefore, IsBehind, IsGivenTo, IsWithin, NameFirst, NamesFirst, Never, Passes, Refuses};
-ghost use Rattle.pipeline.specs.Marks.{AreOver, AreRead, FindsMarks, Follows, Gives, GivesTo, IsOver, IsRead, have_failed, unread};
+ghost use Rattle.pipeline.specs.MarkFaults.{AreGivenTo, IsBefore, IsBehind, IsGivenTo, IsWithin, KeepsGiven, NameFirst, NamesFirst, Never, Passes, Reaches};
+ghost use Rattle.pipeline.specs.Marks.{AreOver, AreRead, FindsMarks, GivesTo, IsOver, IsRead, have_failed, unread};
 ghost use Rattle.pipeline.specs.Parts.{mark_behind};
 
 use crate::fault::PipelineFault;
@@ -18,29 +16,29 @@ use crate::part::TapePart;
 use crate::tracked::Tracked;
 use flowgraph::BlockId;
 use items::Mark;
-use script_text::{FirstLine, LineSplitter, parse_mark_line};
+use script_text::LineSplitter;
 use std::alloc::{AllocError, Global};
 use std::io::Read;
 use std::marker::Model;
 
-/// A reader whose lines are marks, in the order of their items.
+/// A reader whose lines are marks, or say up to which item all marks were there, in the order of their items.
 #[derive(Drop)]
 pub struct MarkReader<R> {
-    reader: Tracked<R>,
+    pub(crate) reader: Tracked<R>,
     // Where it puts the bytes of a piece.
-    piece: Box<[u8; PIECE]>,
+    pub(crate) piece: Box<[u8; PIECE]>,
     // Makes lines of its bytes.
-    lines: LineSplitter,
-    // The mark that was read last, if it is not fed yet.
-    held: Option<Mark>,
+    pub(crate) lines: LineSplitter,
+    // The mark of the line that was taken last, if it is not fed yet.
+    pub(crate) held: Option<Mark>,
     // Whether the reader has no more.
-    is_over: bool,
-    // The number of the line of the mark that was read last, from 1.
-    line: u64,
-    // Its item on the whole tape. The next mark may not lie before it.
-    least: u64,
+    pub(crate) is_over: bool,
+    // The number of the line that was taken last, from 1.
+    pub(crate) line: u64,
+    // Its item on the whole tape. The next line may not be of an item before it.
+    pub(crate) least: u64,
     // The part of the whole tape that the source is fed.
-    part: TapePart,
+    pub(crate) part: TapePart,
 }
 
 impl<R> Model for MarkReader<R> {
@@ -135,7 +133,7 @@ impl<R: Read> MarkReader<R> {
         ensures noted { IfErr result (NotesMarks self.old.has_failed self.new.has_failed) }
         ensures first { IfErr result (NamesFirst R.remaining (IsBefore start self.old) self.old self.new) }
     {
-        self.find_own(source)?;
+        self.find_own(source, Some(end))?;
         let Some(mark) = self.held else {
             return Ok(false);
         };
@@ -165,20 +163,23 @@ impl<R: Read> MarkReader<R> {
         if self.part.goes_on {
             return Ok(());
         }
-        self.find_own(source)?;
+        self.find_own(source, None)?;
         if self.held.is_some() {
             return Err(PipelineFault::MarkPlace(source, self.line));
         }
         Ok(())
     }
 
-    // Unless a mark is held, reads up to the next one that is not before the part, or to the end of the reader. It
-    // passes over marks before it.
-    fn find_own(&mut self, source: BlockId) -> Result<(), PipelineFault>
+    // Unless a mark is held, reads up to the next one that is not before the part, or as far as `find` does. It passes
+    // over marks before the part.
+    fn find_own(&mut self, source: BlockId, end: Option<u64>) -> Result<(), PipelineFault>
         ensures ok { OnOk result (GivesTo R.remaining self.old self.new [] []) }
-        ensures over { OnOk result (self.new.held ≡ None → IsOver self.new) }
-        ensures own { OnOk result (IsGivenTo 0 self.new) }
-        ensures same { (n : ℕ) → IsGivenTo n self.old → self.new ≡ self.old }
+        ensures reaches { OnOk result (self.new.held ≡ None → Reaches end self.new) }
+        ensures over { OnOk result (self.new.held ≡ None → self.new.is_over ≡ true → IsOver self.new) }
+        ensures own { OnOk result ((mark : model.Mark) → self.new.held ≡ Some mark
+            → self.old.part.origin ≤ mark.offset) }
+        ensures keeps { OnOk result (KeepsGiven self.old self.new) }
+        ensures same { (n : ℕ) → end ≡ Some n → IsGivenTo n self.old → self.new ≡ self.old }
         ensures err { OnErr result (IsRead R.remaining self.old self.new) }
         ensures fault { IfErr result (IsOfMarks source) }
         ensures stays { OnOk result (self.new.has_failed ≡ self.old.has_failed) }
@@ -186,7 +187,7 @@ impl<R: Read> MarkReader<R> {
         ensures first { IfErr result (NamesFirst R.remaining Never self.old self.new) }
     {
         for _marks in 0..u64::MAX {
-            self.find(source)?;
+            self.find(source, end)?;
             if !self.pass() {
                 return Ok(());
             }
@@ -210,127 +211,6 @@ impl<R: Read> MarkReader<R> {
         }
         self.held = None;
         true
-    }
-
-    // Unless a mark is held, reads up to the next one, or to the end of the reader.
-    fn find(&mut self, source: BlockId) -> Result<(), PipelineFault>
-        ensures ok { OnOk result (Gives R.remaining self.old self.new []) }
-        ensures over { OnOk result (self.new.held ≡ None → IsOver self.new) }
-        ensures same { (n : ℕ) → IsGivenTo n self.old → self.new ≡ self.old }
-        ensures err { OnErr result (IsRead R.remaining self.old self.new) }
-        ensures fault { IfErr result (IsOfMarks source) }
-        ensures stays { OnOk result (self.new.has_failed ≡ self.old.has_failed) }
-        ensures noted { IfErr result (NotesMarks self.old.has_failed self.new.has_failed) }
-        ensures first { IfErr result (NamesFirst R.remaining Never self.old self.new) }
-    {
-        for _pieces in 0..u64::MAX {
-            if self.held.is_some() || self.is_over {
-                return Ok(());
-            }
-            self.read_on(source)?;
-        }
-        // No reader gives so many pieces without a line.
-        Err(PipelineFault::Memory)
-    }
-
-    // Takes the next line, or reads a piece if its end has not come.
-    fn read_on(&mut self, source: BlockId) -> Result<(), PipelineFault>
-        requires goes_on { self.old.is_over ≡ false }
-        requires none { self.old.held ≡ None }
-        ensures ok { OnOk result (Gives R.remaining self.old self.new []) }
-        ensures err { OnErr result (IsRead R.remaining self.old self.new) }
-        ensures fault { IfErr result (IsOfMarks source) }
-        ensures stays { OnOk result (self.new.has_failed ≡ self.old.has_failed) }
-        ensures noted { IfErr result (NotesMarks self.old.has_failed self.new.has_failed) }
-        ensures first { IfErr result (NamesFirst R.remaining Never self.old self.new) }
-    {
-        let taken = self.lines.taken();
-        if taken == u64::MAX {
-            return Err(PipelineFault::Memory);
-        }
-        let number = taken + 1;
-        match self.lines.take_line() {
-            FirstLine::Whole => {
-                let mark = parse_mark_line(self.lines.line());
-                self.hold(source, number, mark)
-            }
-            FirstLine::TooLong => Err(PipelineFault::BadMark(source, number)),
-            FirstLine::Unfinished => self.read_piece(source, number),
-        }
-    }
-
-    // Reads once, for the line of this number.
-    fn read_piece(&mut self, source: BlockId, number: u64) -> Result<(), PipelineFault>
-        requires goes_on { self.old.is_over ≡ false }
-        requires none { self.old.held ≡ None }
-        requires unfinished { IsUnfinished self.old.rest }
-        requires next { number ≡ suc self.old.taken }
-        ensures ok { OnOk result (Gives R.remaining self.old self.new []) }
-        ensures err { OnErr result (IsRead R.remaining self.old self.new) }
-        ensures fault { IfErr result (IsOfMarks source) }
-        ensures stays { OnOk result (self.new.has_failed ≡ self.old.has_failed) }
-        ensures noted { IfErr result (NotesMarks self.old.has_failed self.new.has_failed) }
-        ensures first { IfErr result (NamesFirst R.remaining Never self.old self.new) }
-    {
-        let piece: &mut [u8; PIECE] = &mut self.piece;
-        let count = match self.reader.read(piece) {
-            Ok(count) => count,
-            Err(error) => return Err(PipelineFault::ReadMarks(source, error)),
-        };
-        if count == 0 {
-            return self.end_lines(source, number);
-        }
-        self.lines.push(&piece[..count]);
-        Ok(())
-    }
-
-    // Takes the line of this number. It ends with the bytes, since the reader is at its end.
-    fn end_lines(&mut self, source: BlockId, number: u64) -> Result<(), PipelineFault>
-        requires goes_on { self.old.is_over ≡ false }
-        requires none { self.old.held ≡ None }
-        requires unfinished { IsUnfinished self.old.rest }
-        requires at_end { IsAtEnd (R.remaining self.old.reader) }
-        requires next { number ≡ suc self.old.taken }
-        ensures ok { OnOk result (Gives R.remaining self.old self.new []) }
-        ensures err { OnErr result (IsRead R.remaining self.old self.new) }
-        ensures fault { IfErr result (IsOfMarks source) }
-        ensures stays { OnOk result (self.new.has_failed ≡ self.old.has_failed) }
-        ensures noted { IfErr result (NotesMarks self.old.has_failed self.new.has_failed) }
-        ensures first { IfErr result (NamesFirst R.remaining Never self.old self.new) }
-    {
-        self.is_over = true;
-        match self.lines.last_line() {
-            Some(line) => {
-                let mark = parse_mark_line(line);
-                self.hold(source, number, mark)
-            }
-            None => Ok(()),
-        }
-    }
-
-    // Holds the mark of a line.
-    fn hold(&mut self, source: BlockId, line: u64, mark: Option<Mark>) -> Result<(), PipelineFault>
-        ensures some { OnOk result (IsSome mark) }
-        ensures ok { OnOk result (self.new ≡ record self.old {
-          held = option_map mark_seen mark;
-          line = line;
-          least = self.new.least;
-        }) }
-        ensures follows { OnOk result (Follows self.old.least (option_map mark_seen mark) self.new.least) }
-        ensures err { OnErr result (self.new ≡ self.old) }
-        ensures fault { IfErr result (IsOfMarks source) }
-        ensures refused { IfErr result (Refuses self.old.least line (option_map mark_seen mark)) }
-    {
-        let Some(mark) = mark else {
-            return Err(PipelineFault::BadMark(source, line));
-        };
-        if mark.offset < self.least {
-            return Err(PipelineFault::MarkPlace(source, line));
-        }
-        self.line = line;
-        self.least = mark.offset;
-        self.held = Some(mark);
-        Ok(())
     }
 }
 

@@ -1,11 +1,11 @@
 //! The marks of a source. Each piece has those on its items.
 
 use crate::unread::Unread;
-use script_text::parse_mark_line;
+use pipeline::MarkLine;
 use std::alloc::{AllocError, Global};
 use std::io;
 
-// A longer line is no mark.
+// A longer line says nothing that it may.
 const LONGEST_LINE: usize = 65_536;
 
 // The most bytes that are held. If the marks on a piece's items have more, the rest of the run reads them.
@@ -18,7 +18,7 @@ pub enum Known {
     All,
     /// More has to be read.
     Some,
-    /// They cannot be known: a line is no mark, or its mark lies on an item before that of the line above, or a read
+    /// They cannot be known: a line says nothing that it may, or its item is before that of the line above, or a read
     /// failed. Whoever reads on learns which.
     Never,
 }
@@ -31,10 +31,10 @@ enum Reading {
     IsStopped,
 }
 
-// A line that is a mark.
+// A line that was looked at: a mark, or `until`.
 #[derive(Clone, Copy)]
-struct MarkLine {
-    // The item of the whole tape that the mark lies on.
+struct SeenLine {
+    // The item of the whole tape that it speaks of.
     item: u64,
     // Where the line ends among the held bytes.
     end: usize,
@@ -45,8 +45,8 @@ struct MarkLine {
 #[derive(Drop)]
 pub struct Marks {
     bytes: Vec<u8>,
-    // The marks whose lines are at the front of these bytes, and how many lines came before.
-    lines: Vec<MarkLine>,
+    // The lines at the front of these bytes that were looked at, and how many came before.
+    lines: Vec<SeenLine>,
     passed: u64,
     reading: Reading,
     failure: Option<io::Error>,
@@ -86,8 +86,8 @@ impl Marks {
         Ok(())
     }
 
-    /// Whether all marks on items before this one are known. It looks at the read lines up to the first whose mark lies
-    /// on this item or a later one.
+    /// Whether all marks on items before this one are known. It looks at the read lines up to the first that speaks of
+    /// this item or a later one, be it a mark or `until`.
     pub(crate) fn known(&mut self, item: u64) -> Result<Known, AllocError> {
         for _ in 0..u64::MAX {
             match self.reading {
@@ -134,9 +134,9 @@ impl Marks {
             Some((b'\r', line)) if end < next => line,
             _ => line,
         };
-        match parse_mark_line(line) {
-            Some(mark) if self.least() <= mark.offset => self.lines.push(MarkLine {
-                item: mark.offset,
+        match MarkLine::parse(line) {
+            Some(said) if self.least() <= said.item() => self.lines.push(SeenLine {
+                item: said.item(),
                 end: next,
             })?,
             _ => self.reading = Reading::IsStopped,
@@ -144,7 +144,7 @@ impl Marks {
         Ok(())
     }
 
-    // The first item that the next mark may lie on.
+    // The first item that the next line may speak of.
     fn least(&self) -> u64 {
         match self.lines.last() {
             Some(line) => line.item,
@@ -168,12 +168,12 @@ impl Marks {
         }
     }
 
-    // How many marks lie on items before this one.
+    // How many lines speak of items before this one.
     fn before(&self, item: u64) -> usize {
         self.lines.partition_point(|line| line.item < item)
     }
 
-    /// The lines of the marks on items from `from` to below `end`.
+    /// The lines that speak of items from `from` to below `end`.
     pub(crate) fn lines(&self, alloc: Global, from: u64, end: u64) -> Result<Vec<u8>, AllocError> {
         let (from, end) = (
             self.end_of(self.before(from)),
@@ -184,7 +184,7 @@ impl Marks {
         Ok(lines)
     }
 
-    /// Drops the marks on items before this one, except the last. The next mark may not lie before that one.
+    /// Drops the lines that speak of items before this one, except the last. The next may speak of none before that one's.
     pub(crate) fn forget(&mut self, item: u64) {
         let count = self.before(item).saturating_sub(1).min(self.lines.len());
         if count == 0 {

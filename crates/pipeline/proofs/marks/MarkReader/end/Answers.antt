@@ -24,4 +24,4 @@ returns-then-is_some-clause-first g c =
     let gives = c.in_ok-find_own.ensures.ok in
     rw (ap Marking.line c.self-2.view_is)
     (left-names g.R.Read.remaining c.args.self.now c.find_own.new.self c.args.source c.find_own.new.self.held gives.0 gives.1 refl
-    (subst IsSome (ap Marking.held c.self-2.view_is) (some_seen mark_seen c.self-2.inside.held there)) c.find_own.ensures.same)
+    (subst IsSome (ap Marking.held c.self-2.view_is) (some_seen mark_seen c.self-2.inside.held there)) c.in_ok-find_own.ensures.keeps)

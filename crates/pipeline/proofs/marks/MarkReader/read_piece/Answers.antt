@@ -8,7 +8,7 @@ use Rattle.pipeline.specs.Marks.{Marking}
 use Rattle.pipeline.specs.MarkFaults.{Never}
 use Rattle.pipeline.proofs.Reading.{keeps_consumes}
 use Rattle.pipeline.proofs.Refusing.{names-then}
-use Rattle.pipeline.proofs.Telling.{gives-read-then, gives-then, nothing-gives, nothing-read, piece-gives, room_for}
+use Rattle.pipeline.proofs.Telling.{gives-read-then, gives-then, keeps-then, nothing-gives, nothing-read, piece-gives, room_for, same-keeps}
 use Rattle.pipeline.proofs.marks.MarkReader.read_piece.Goals as goal
 
 pub returns-in-Err-clause-err : goal.returns-in-Err-clause-err
@@ -67,3 +67,20 @@ returns-then-count-eq0-clause-first g c =
     let read : Consumes (remaining s.reader.reader) (remaining c.read.new.self.reader) [] = subst (λ n. Consumes (remaining s.reader.reader) (remaining c.read.new.self.reader) (take n c.read.new.buf)) c.if-count-eq0.true c.in-Ok.ensures.bytes.0 in
     rw (← c.self.view_is)
     (IfErr-weaker c.end_lines.result _ _ (names-then remaining Never Never (λ _ never. never) m k c.end_lines.new.self [] (nothing-gives remaining m k open0 same read)) c.end_lines.ensures.first)
+
+pub returns-then-count-eq0-clause-keeps : goal.returns-then-count-eq0-clause-keeps
+returns-then-count-eq0-clause-keeps g c =
+    let s = c.self.inside in
+    let open0 : s.is_over ≡ false = ap Marking.is_over c.self.view_is ∙ c.requires.goes_on in
+    let m : Marking _ = record { reader = s.reader.reader; has_failed = s.reader.has_failed; rest = cond s.is_over [] s.lines.rest; taken = s.lines.taken; held = option_map mark_seen s.held; is_over = s.is_over; line = s.line; least = s.least; part = s.part } in
+    let k : Marking _ = record m { reader = c.read.new.self.reader; has_failed = c.read.new.self.has_failed } in
+    rw (← c.self.view_is)
+    (on_ok_weaker c.end_lines.result (keeps-then m k c.end_lines.new.self (same-keeps m k open0 refl refl refl)) c.end_lines.ensures.keeps)
+
+pub returns-clause-keeps : goal.returns-clause-keeps
+returns-clause-keeps g c =
+    let s = c.self.inside in
+    let open0 : s.is_over ≡ false = ap Marking.is_over c.self.view_is ∙ c.requires.goes_on in
+    let m : Marking _ = record { reader = s.reader.reader; has_failed = s.reader.has_failed; rest = cond s.is_over [] s.lines.rest; taken = s.lines.taken; held = option_map mark_seen s.held; is_over = s.is_over; line = s.line; least = s.least; part = s.part } in
+    let m' : Marking _ = record { reader = c.read.new.self.reader; has_failed = c.read.new.self.has_failed; rest = cond s.is_over [] c.push.new.self.rest; taken = c.push.new.self.taken; held = option_map mark_seen s.held; is_over = s.is_over; line = s.line; least = s.least; part = s.part } in
+    rw (← c.self.view_is) (same-keeps m m' open0 refl refl refl)

@@ -25,13 +25,14 @@ returns-clause-ok g c =
     let mark = mark_seen c.in-Some.mark in
     let held : m.held ≡ Some mark = sym (ap Marking.held c.self.view_is) ∙ ap (option_map mark_seen) c.in-Some.is in
     let before = marks_seen c.args.marks.now.items in
-    let own = c.in_ok-find_own.ensures.own.held mark held in
+    let own = c.in_ok-find_own.ensures.own mark held in
+    let part : m.part.origin ≡ old.part.origin = ap TapePart.origin c.in_ok-find_own.ensures.ok.1.part in
     let at : mark_seen c.behind-own.result ≡ mark_behind m.part.origin mark = c.behind-own.ensures ∙ ap (λ (x : Marking _). mark_behind x.part.origin mark) c.self.view_is in
     let pushed : marks_seen c.push_reserved.new.self.items ≡ before ++ mark_behind m.part.origin mark ∷ [] =
     ap marks_seen (c.push_reserved.ensures.items ∙ ap (λ ys. ys ++ c.behind-own.result ∷ []) c.reserve.ensures.items) ∙ map-append mark_seen c.args.marks.now.items (c.behind-own.result ∷ []) ∙ ap (λ (x : Mark). before ++ x ∷ []) at in
     subst (λ (ms : List Mark). GivesTo remaining old m' before ms) (sym pushed)
     (gives_to-then remaining old m m' before before (before ++ mark_behind m.part.origin mark ∷ []) (gives_to-any remaining old m before c.in_ok-find_own.ensures.ok)
-    (held-gives_to remaining m m' mark before held (ap (λ (x : Marking _). record x { held = None }) c.self.view_is) (omega (arith, own))))
+    (held-gives_to remaining m m' mark before held (ap (λ (x : Marking _). record x { held = None }) c.self.view_is) (omega (arith, own, part))))
 
 pub returns-in_err-find_own-clause-first : goal.returns-in_err-find_own-clause-first
 returns-in_err-find_own-clause-first g c =
@@ -47,7 +48,7 @@ returns-then-own-start-clause-first g c =
     let mark = mark_seen c.in-Some.mark in
     let held : m.held ≡ Some mark = sym (ap Marking.held c.self.view_is) ∙ ap (option_map mark_seen) c.in-Some.is in
     let gives = c.in_ok-find_own.ensures.ok in
-    let own = c.in_ok-find_own.ensures.own.held mark held in
+    let own = c.in_ok-find_own.ensures.own mark held in
     let here : c.self.inside.part.origin ≡ m.part.origin = ap (λ (x : Marking _). x.part.origin) c.self.view_is in
     let part : m.part.origin ≡ old.part.origin = ap (λ (part : TapePart). part.origin) gives.1.part in
     let at : c.behind-own.result.offset ≡ mark.offset - c.self.inside.part.origin = ap Mark.offset c.behind-own.ensures in
