@@ -31,10 +31,10 @@ terminals=(terminals/explains terminals/never terminals/place)
 names=(names/gnu_radio)
 # And live runs between pipes, with lines that are written while items stream.
 spoken=(spoken/settings spoken/stop spoken/killed spoken/closes spoken/lines spoken/standard spoken/two spoken/soon
-    spoken/long spoken/gone spoken/readme spoken/drawn)
+    spoken/long spoken/gone spoken/readme spoken/times spoken/times_now_and_then spoken/no_times spoken/drawn)
 # And runs whose trace a program of Python reads.
-traces=(traces/adaptive traces/one_thread traces/thread_per_block traces/between_files traces/now_and_then
-    traces/first_events traces/picture traces/part_of_a_picture)
+traces=(traces/adaptive traces/one_thread traces/thread_per_block traces/between_files traces/live
+    traces/now_and_then traces/first_events traces/picture traces/part_of_a_picture)
 
 # add CASE FOLDER: the case, and the runs of a run on one thread and in one for each block
 add() {
@@ -304,9 +304,9 @@ traces_adaptive() { has_all; }
 traces_one_thread() { has_all --one-thread; }
 traces_thread_per_block() { has_all --thread-per-block; }
 
-# traces_between_files: a run that takes its items from a pipe, and writes them to a file
-traces_between_files() {
-    head -c 100000 /dev/zero | "${start[@]}" run --stats=json --trace "$room/trace" -i src=- -o out="$room/items" \
+# traced_between_files WORD..: a run of this command that takes its items from a pipe, and writes them to a file
+traced_between_files() {
+    head -c 100000 /dev/zero | "${start[@]}" "$@" --stats=json --trace "$room/trace" -i src=- -o out="$room/items" \
         "$top/tests/graphs/plain.toml" >"$room/report" 2>"$room/times" || return
     differs stdout <(printf 'sink out 100000\ndone\n') "$room/report" || return
     differs items <(head -c 100000 /dev/zero | tr '\0' '\n') "$room/items" || return
@@ -316,6 +316,9 @@ print(*[(it["name"], it["firings"]) for it in json.load(open(sys.argv[1]))["bloc
         >"$room/firings" || return
     differs firings <(echo "('src', 100000) ('a', 100000) ('out', 100000)") "$room/firings"
 }
+
+traces_between_files() { traced_between_files run; }
+traces_live() { traced_between_files live --control /dev/null; }
 
 # traces_now_and_then: the times of a run so far, of which each report is a line, while its items come in three parts
 # (when each comes is up to the machine)

@@ -2,6 +2,7 @@
 """Live runs between files, by the program whose words stand behind the name of a case: what lines ask while items
 stream, and the replies. Prints what is wrong."""
 
+import json
 import os
 import pathlib
 import random
@@ -100,11 +101,21 @@ class Live:
 
     def ends(self, status, report):
         """The run ends so."""
+        errors = self.ends_telling(status, report)
+        check(errors == "", "it told %r" % errors)
+
+    def ends_telling(self, status, report):
+        """The run ends so, and tells this on standard error."""
         came, errors = self.run.communicate(timeout=60)
         check(
-            (self.run.returncode, came, errors) == (status, report, ""),
+            (self.run.returncode, came) == (status, report),
             "it ended in %d with %r and %r" % (self.run.returncode, came, errors),
         )
+        return errors
+
+    def rows(self, line, count):
+        """The reply of so many lines."""
+        return [self.ask(line), *(self.reply() for _ in range(count - 1))]
 
 
 def script(program, folder, lines):
@@ -351,6 +362,95 @@ def long(program, folder):
         print("%d settings, %d items, %d kilobytes at most, grown by %d" % (count, last, most, grown), file=sys.stderr)
 
 
+def told_times(report):
+    """Of each block in a report of JSON what a line `stats` tells of it."""
+    keys = ("name", "firings", "nanoseconds_at_work", "turns")
+    return [tuple(block[key] for key in keys) for block in json.loads(report)["blocks"]]
+
+
+def asked_times(live, blocks):
+    """What the lines for so many blocks tell of each."""
+    told = []
+    for row in live.rows("stats", blocks):
+        word, name, *numbers = row.split(" ")
+        check(word == "stats" and len(numbers) == 3 and all(it.isdigit() for it in numbers), "times: %r" % row)
+        told.append((name, *map(int, numbers)))
+    return told
+
+
+def times(program, folder):
+    """Of a run that is measured a line asks what its blocks have done, which grows to what its report tells."""
+    (folder / "graph.toml").write_text(graph("byte", ["add_const value = 1", "keep_one_in_n n = 4"]), encoding="utf-8")
+    live = Live(program, folder, "--stats=json", "-i", "src=in", "-o", "out=out")
+    source = open(folder / "in", "wb", buffering=0)
+    names, last = ("src", "b0", "b1", "out"), None
+    for fed in (0, 1000, 2000):
+        source.write(bytes(1000) if fed else b"")
+        # (the run answers a line for levels between two rounds, so all turns up to there are over)
+        while live.rows("levels", 4)[3].split()[2] != str(fed // 4):
+            pass
+        told = asked_times(live, 4)
+        firings = [(name, fed if name in ("src", "b0") else fed // 4) for name in names]
+        check([row[:2] for row in told] == firings, "behind %d items: %r" % (fed, told))
+        check(all(turns <= count and (turns > 0) == (count > 0) for _, count, _, turns in told), "turns: %r" % told)
+        if last is None:
+            check(all(nanos == 0 for _, _, nanos, _ in told), "times of no turn: %r" % told)
+        else:
+            grows = all(now[at] >= before[at] for now, before in zip(told, last) for at in (2, 3))
+            check(grows and sum(row[2] for row in told) > 0, "%r behind %r" % (told, last))
+        last = told
+    check(live.ask("stats now") == "refused 50" and live.ask("  stats ").startswith("stats src 2000 "), "odd lines")
+    for _ in range(3):
+        live.reply()
+    check(live.ask("stop") == "stopped", "the reply to a stop")
+    # (no line behind a stop has a reply)
+    try:
+        live.lines.write("stats\n")
+    except BrokenPipeError:
+        pass
+    check(live.reply() == "", "a reply behind a stop")
+    report = live.ends_telling(0, "sink out 500\nstopped\n")
+    check(told_times(report) == last, "the report tells %r, and the lines told %r" % (report, last))
+    source.close()
+
+
+def times_now_and_then(program, folder):
+    """The times of a live run so far, of which each report is a line, while its items come in three parts. (When each
+    comes is up to the machine.)"""
+    (folder / "graph.toml").write_text(graph("byte", ["add_const value = 1"]), encoding="utf-8")
+    live = Live(program, folder, "--stats=json", "--stats-every", "1", "-i", "src=in", "-o", "out=out")
+    source = open(folder / "in", "wb", buffering=0)
+    check(live.ask("set b0 now 2") == "taken 0", "a reply")
+    for _ in range(3):
+        source.write(bytes(1000))
+        time.sleep(1.2)
+    source.close()
+    reports = live.ends_telling(0, "sink out 3000\ndone\n").splitlines()
+    told = [told_times(report)[0][1] for report in reports]
+    check(len(told) > 1 and told == sorted(told) and told[-2] > 0 and told[-1] == 3000, "the firings: %r" % told)
+    check((folder / "out").read_bytes() == bytes([2] * 3000), "what streamed")
+
+
+def no_times(program, folder):
+    """A line asks for the times of a run that is not measured, or only traced, and is refused."""
+    for words in ((), ("--trace", "trace")):
+        here = folder / ("here%d" % len(words))
+        here.mkdir()
+        (here / "graph.toml").write_text(graph("byte", ["add_const value = 1"]), encoding="utf-8")
+        live = Live(program, here, *words, "-i", "src=in", "-o", "out=out")
+        source = open(here / "in", "wb", buffering=0)
+        check(live.ask("stats") == "refused 50", "the reply to a line for times")
+        check(live.ask("set b0 now 2") == "taken 0", "the reply behind it")
+        source.write(bytes(5))
+        source.close()
+        live.ends(0, "sink out 5\ndone\n")
+        check((here / "out").read_bytes() == bytes([2] * 5), "what streamed")
+        if words:
+            events = json.loads((here / "trace").read_text(encoding="utf-8"))["traceEvents"]
+            fired = sum(it["args"]["firings"] for it in events if it.get("cat") == "turn")
+            check(fired == 15, "the trace has %d firings" % fired)
+
+
 def gone(program, folder):
     """Replies that nobody reads are no fault of the run."""
     (folder / "graph.toml").write_text(graph("byte", ["add_const value = 1"]), encoding="utf-8")
@@ -391,7 +491,8 @@ def readme(program, folder):
 
 
 CASES = {"settings": settings, "stop": stop, "killed": killed, "closes": closes, "lines": lines,
-    "standard": standard, "two": two, "soon": soon, "long": long, "gone": gone, "readme": readme}
+    "standard": standard, "two": two, "soon": soon, "long": long, "gone": gone, "readme": readme, "times": times,
+    "times_now_and_then": times_now_and_then, "no_times": no_times}
 
 
 def main():

@@ -120,16 +120,20 @@ fn talk_of<'a>(name: &str, inner: &ArgMatches<'a>) -> Talk<'a> {
     }
 }
 
-// The call, unless a standard stream would have both lines or replies, and items.
+// The call, unless a standard stream would have both lines or replies, and items. A live run without files of items has
+// no lines of its own, and no times.
 fn talking(call: Call<'_>) -> Result<Call<'_>, EndsFault> {
     if call.action != Action::Live {
         return Ok(call);
     }
     if call.ends.are_none() {
-        if call.talk.is_standard() {
-            return Ok(call);
+        if !call.talk.is_standard() {
+            return Err(EndsFault::LinesAlone);
         }
-        return Err(EndsFault::LinesAlone);
+        if call.is_measured() {
+            return Err(EndsFault::TimesAlone);
+        }
+        return Ok(call);
     }
     if call.talk.control.is_none() && call.ends.use_input() {
         return Err(EndsFault::LinesAmongItems);

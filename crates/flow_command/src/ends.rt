@@ -62,6 +62,8 @@ pub enum EndsFault {
     RepliesAmongItems,
     /// Lines or replies have a file of their own in a live run without files of items.
     LinesAlone,
+    /// Times or a trace are wanted of a live run without files of items.
+    TimesAlone,
     /// A word for a slice is no `J/N` with J from 1 to N.
     NoSlice,
     /// Memory ran out.
@@ -91,6 +93,9 @@ impl EndsFault {
                 "standard output has the replies of a live run, unless --replies names a file",
             ),
             EndsFault::LinesAlone => Some("--control and --replies go with files of raw items"),
+            EndsFault::TimesAlone => Some(
+                "--stats and --trace of a live run go with files of raw items",
+            ),
             EndsFault::NoSlice => Some("a word for a slice is no J/N with J from 1 to N"),
             EndsFault::Memory => None,
         }

@@ -98,7 +98,8 @@ fn run_spoken<R: Threads + Wait + Clock + CpuClock + Copy + Send + Sync + 'stati
     speech: Speech,
     looks: &mut Onlookers<'_, R, W>,
 ) -> Result<(Ended, Option<Stop>), Stop> {
-    let (mut requests, lines) = lines_of(threads, alloc, run, readers, speech)?;
+    let observer = looks.share_observer()?;
+    let (mut requests, lines) = lines_of(threads, alloc, run, readers, observer, speech)?;
     let ended = run_helped(
         threads,
         alloc,

@@ -7,6 +7,7 @@ use kinds::Kind;
 use pipeline::{Answer, Closed, Levels, PlantFault, Taken, Told};
 use refusal_codes::Refusal;
 use request_box::{CallFault, Caller};
+use run_stats::Meter;
 use script_text::{Command, Line, Reply, parse_line};
 use std::alloc::{AllocError, Global};
 use std::sync::Wait;
@@ -59,25 +60,27 @@ impl Blocks {
     }
 }
 
-/// Whether a line got its answer.
+/// Whether the next line may get an answer.
 #[derive(Clone, Copy, Debug, PartialEq, Eq)]
 pub enum Said {
-    /// All of it.
+    /// It may: this one got its whole answer.
     All,
-    /// Not all of it: nobody answers any more.
+    /// It may not: the run is over, or was stopped by this one.
     Ended,
 }
 
-/// Makes the calls that a line asks for, and adds each reply as a line.
+/// Makes the calls that a line asks for, and adds each reply as a line. The meter is that of the run, if it has one.
 pub fn reply_to<R: Wait + Drop>(
     alloc: Global,
     caller: &Caller<R>,
     blocks: &Blocks,
+    meter: Option<&Meter<R>>,
     line: &[u8],
     out: &mut Vec<u8>,
 ) -> Result<Said, AllocError> {
     match line.trim_ascii() {
         b"levels" => return tell_levels(alloc, caller, blocks, out),
+        b"stats" => return tell_stats(alloc, blocks, meter, out),
         b"stop" => return added(alloc, caller.stop(), out),
         _ => {}
     }
@@ -149,6 +152,42 @@ fn add_levels(
     out.extend_from_slice(line.as_bytes())
 }
 
+// Tells what each block has done and how long it took, in the order of the file. A run that is not measured refuses it.
+fn tell_stats<R: Drop>(
+    alloc: Global,
+    blocks: &Blocks,
+    meter: Option<&Meter<R>>,
+    out: &mut Vec<u8>,
+) -> Result<Said, AllocError> {
+    let Some(meter) = meter else {
+        return add(alloc, Reply::Refused(BAD_LINE), out);
+    };
+    match stats_lines(alloc, blocks, meter) {
+        Ok(lines) => {
+            out.extend_from_slice(&lines)?;
+            Ok(Said::All)
+        }
+        Err(_) => add(alloc, Reply::Refused(NO_MEMORY), out),
+    }
+}
+
+// A line for each block: how often it fired, for how many nanoseconds it was at work, and in how many turns.
+fn stats_lines<R: Drop>(
+    alloc: Global,
+    blocks: &Blocks,
+    meter: &Meter<R>,
+) -> Result<Vec<u8>, AllocError> {
+    let stats = meter.stats(alloc)?;
+    let mut lines = Vec::new(alloc);
+    for (block, figures) in blocks.blocks.iter().zip(&stats.blocks) {
+        let name = block.name.as_str();
+        let (firings, nanos, turns) = (figures.firings, figures.nanos, figures.turns);
+        let line = format!(in alloc; "stats {name} {firings} {nanos} {turns}\n")?;
+        lines.extend_from_slice(line.as_bytes())?;
+    }
+    Ok(lines)
+}
+
 // Adds the answer to a call.
 fn added(
     alloc: Global,
@@ -165,7 +204,7 @@ fn added(
             Told::Levels(Ok(_)) => Ok(Said::All),
             Told::Stopped => {
                 out.extend_from_slice(b"stopped\n")?;
-                Ok(Said::All)
+                Ok(Said::Ended)
             }
         },
         Err(CallFault::Ended) => Ok(Said::Ended),

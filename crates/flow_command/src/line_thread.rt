@@ -4,6 +4,7 @@ use crate::line_calls::{Blocks, Said, reply_to};
 use crate::speaking::{Control, Speech};
 use crate::stops::Stop;
 use request_box::Caller;
+use run_stats::{Meter, Observer};
 use std::alloc::{AllocError, Global};
 use std::io::Read;
 use std::sync::{Arc, Condvar, Mutex, Wait};
@@ -114,6 +115,8 @@ pub trait Speaks<R> {
 pub struct Speaker<R: Drop> {
     blocks: Blocks,
     caller: Caller<R>,
+    // What the run is measured by, if it is.
+    observer: Option<Arc<Observer<R>, Global>>,
     speech: Speech,
     lines: Lines,
 }
@@ -143,11 +146,13 @@ impl<R: Drop> Speaker<R> {
         alloc: Global,
         blocks: Blocks,
         caller: Caller<R>,
+        observer: Option<Arc<Observer<R>, Global>>,
         speech: Speech,
     ) -> Result<Speaker<R>, AllocError> {
         Ok(Speaker {
             blocks,
             caller,
+            observer,
             speech,
             lines: Lines::new(alloc)?,
         })
@@ -158,10 +163,12 @@ impl<R: Wait + Drop> Speaker<R> {
     // Answers the line that came last, and returns whether more may be answered.
     fn answer(&mut self, alloc: Global) -> bool {
         let mut reply = Vec::new(alloc);
+        let meter = meter_of(&self.observer);
         let said = reply_to(
             alloc,
             &self.caller,
             &self.blocks,
+            meter,
             &self.lines.line,
             &mut reply,
         );
@@ -169,6 +176,14 @@ impl<R: Wait + Drop> Speaker<R> {
             return false;
         }
         matches!(said, Ok(Said::All))
+    }
+}
+
+// The meter of an observer; none if it only traces.
+fn meter_of<R>(observer: &Option<Arc<Observer<R>, Global>>) -> Option<&Meter<R>> {
+    match observer {
+        Some(observer) => observer.meter.as_ref(),
+        None => None,
     }
 }
 

@@ -2,7 +2,7 @@
 
 use flowgraph::BlockId;
 use run_stats::Observer;
-use std::alloc::Global;
+use std::alloc::{AllocError, Global};
 use std::sync::Arc;
 use std::time::Duration;
 use streaming::{Headway, Helpers, Step, Watch};
@@ -12,6 +12,16 @@ use streaming::{Headway, Helpers, Step, Watch};
 pub struct Onlookers<'a, R: Drop, W> {
     pub watch: &'a mut W,
     pub observer: Option<Arc<Observer<R>, Global>>,
+}
+
+impl<R: Drop, W> Onlookers<'_, R, W> {
+    /// The observer, for one more thread; none if the run has none.
+    pub fn share_observer(&self) -> Result<Option<Arc<Observer<R>, Global>>, AllocError> {
+        match &self.observer {
+            Some(observer) => Ok(Some(Arc::try_clone(observer)?)),
+            None => Ok(None),
+        }
+    }
 }
 
 /// Nobody helps: the caller makes each step, and this watch is told of it.

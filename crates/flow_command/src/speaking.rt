@@ -9,11 +9,12 @@ use crate::words::Call;
 use flow_core::start_fault::StartFault;
 use reader_threads::ReaderThreads;
 use request_box::{RequestBox, request_box};
+use run_stats::Observer;
 use std::alloc::Global;
 use std::fs::File;
 use std::io::{Read, StdinLock, Write};
 use std::os::unix::fs::FileTypeExt;
-use std::sync::Wait;
+use std::sync::{Arc, Wait};
 use std::thread::Threads;
 use std::{fs, io};
 
@@ -123,17 +124,19 @@ fn opened_replies(rt: &HostRuntime, path: &str) -> io::Result<Replies> {
     }
 }
 
-/// Starts the thread that makes the calls of the lines, and returns it with the box of its requests.
-pub fn lines_of<R: Threads + Wait + Copy + Send + 'static>(
+/// Starts the thread that makes the calls of the lines, and returns it with the box of its requests. It tells what the
+/// observer has measured, if there is one.
+pub fn lines_of<R: Threads + Wait + Copy + Send + Sync + 'static>(
     threads: R,
     alloc: Global,
     run: &Stream<R>,
     readers: &ReaderThreads<Chain, R>,
+    observer: Option<Arc<Observer<R>, Global>>,
     speech: Speech,
 ) -> Result<(RequestBox<R>, LineThread<R>), Stop> {
     let blocks = Blocks::of(alloc, run.plant.graph())?;
     let (requests, caller) = request_box(threads, alloc, readers.bell()?)?;
-    let speaker = Speaker::new(alloc, blocks, caller, speech)?;
+    let speaker = Speaker::new(alloc, blocks, caller, observer, speech)?;
     let lines = LineThread::start(threads, alloc, speaker)?;
     Ok((requests, lines))
 }

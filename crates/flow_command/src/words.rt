@@ -311,6 +311,8 @@ fn live_command<'a>(alloc: Global) -> Result<clap::Command<'a>, clap::Error> {
         "Runs the graph while the commands of standard input are done",
     )?;
     let live = live.arg(quiet(alloc))?;
+    let live = with_stats(alloc, live)?;
+    let live = with_trace(alloc, live)?;
     with_lines(alloc, with_files(alloc, live)?)
 }
 
