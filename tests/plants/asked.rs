@@ -20,10 +20,10 @@ use streaming::{NoHelpers, Unwatched};
 
 // Requests that come at these turns of a run, the last first, and what was answered.
 #[derive(Drop)]
-struct Turns {
-    turn: u32,
-    due: Vec<(u32, Request)>,
-    answers: Vec<Answer>,
+pub struct Turns {
+    pub turn: u32,
+    pub due: Vec<(u32, Request)>,
+    pub answers: Vec<Answer>,
 }
 
 impl Requests for Turns {

@@ -1,8 +1,10 @@
-//! Which of several readers a pipeline reads by what is told of who is ready, and when it waits.
+//! Which of several readers a pipeline reads by what is told of who is ready, which writers it writes to by who takes
+//! something, and when it waits.
+use super::asked::Turns;
 use super::drawn::{Make, Wire, streaming};
 use flowgraph::BlockId;
 use kinds::Kind;
-use pipeline::{ByteOrder, Pipeline, Readiness, Settled};
+use pipeline::{ByteOrder, End, Ended, Pipeline, Readiness, Request, Settled};
 use std::alloc::Global;
 use std::io::Read;
 use std::io;
@@ -27,12 +29,13 @@ impl Read for Bytes {
     }
 }
 
-// Which sources are silent, and which of them are woken by the next wait; and what was asked: the sources that were not
-// ready, with a wait as 99, and those that were.
+// Which sources are silent, and which of them are woken by the next wait; which blocks are full until then; and what was
+// asked: the sources that were not ready, with a wait as 99, and those that were.
 #[derive(Drop)]
 struct Asked {
     silent: [bool; 4],
     wakes: [bool; 4],
+    full: [bool; 4],
     in_vain: Vec<u32>,
     ready: Vec<u32>,
 }
@@ -41,6 +44,7 @@ fn answers(alloc: Global, silent: [bool; 4]) -> Asked {
     Asked {
         silent,
         wakes: [false; 4],
+        full: [false; 4],
         in_vain: Vec::new(alloc),
         ready: Vec::new(alloc),
     }
@@ -53,8 +57,13 @@ impl Readiness for Asked {
         !is_silent
     }
 
+    fn takes(&mut self, sink: BlockId) -> bool {
+        !self.full.get(sink.0 as usize).is_some_and(|it| *it)
+    }
+
     fn wait(&mut self) {
         let _ = self.in_vain.push(99);
+        self.full = [false; 4];
         for source in 0..4 {
             self.silent[source] = self.silent[source] && !self.wakes[source];
         }
@@ -95,6 +104,27 @@ fn joined(
     Ok(run)
 }
 
+// Two chains with readers of so many bytes, whose sinks, blocks 2 and 3, have writers.
+fn written_chains(rt: &impl Abort, alloc: Global, left: u32) -> Result<Run, Fail> {
+    let mut run = chains(rt, alloc, &[left, left])?;
+    for sink in [2, 3] {
+        let joined = run.write_to(alloc, BlockId(sink), ByteOrder::Big, Some(Vec::new(alloc)), None);
+        assert!(rt; joined.is_ok(), "a writer");
+    }
+    Ok(run)
+}
+
+// What a sink's writer was given.
+fn given<'a>(rt: &impl Abort, run: &'a Run, sink: usize) -> &'a [u8] {
+    match &run.ends[sink] {
+        End::Output(output) => match &output.items_to {
+            Some(writer) => writer,
+            None => panic!(rt; "no writer"),
+        },
+        _ => panic!(rt; "no output"),
+    }
+}
+
 // Runs so many turns, of which none is the last.
 fn turns(rt: &impl Abort, alloc: Global, run: &mut Run, count: u32, asked: &mut Asked) {
     for _turn in 0..count {
@@ -125,7 +155,7 @@ fn it_waits_for_all_that_it_could_read(rt: HostRuntime) -> Result<(), Fail> {
     let mut run = chains(&rt, alloc, &[1, 1, 1])?;
     let mut asked = answers(alloc, [true, true, true, false]);
     asked.wakes[2] = true;
-    turns(&rt, alloc, &mut run, 2, &mut asked);
+    turns(&rt, alloc, &mut run, 3, &mut asked);
     assert_eq!(rt; asked.ready.as_slice(), &[2][..]);
     let at = asked.in_vain.iter().position(|it| *it == 99);
     let Some(at) = at else {
@@ -145,7 +175,7 @@ fn a_join_waits_for_the_input_that_it_lacks(rt: HostRuntime) -> Result<(), Fail>
     let mut run = joined(&rt, alloc, &blocks, &[(0, 0, 2, 0), (1, 0, 2, 1), (2, 0, 3, 0)], &[1, 1])?;
     let mut asked = answers(alloc, [true, false, false, false]);
     asked.wakes[0] = true;
-    turns(&rt, alloc, &mut run, 1, &mut asked);
+    turns(&rt, alloc, &mut run, 2, &mut asked);
     assert_eq!(rt; asked.ready.as_slice(), &[0][..]);
     assert!(rt; asked.in_vain.contains(&99), "it waited");
     Ok(())
@@ -167,5 +197,46 @@ fn sources_for_which_no_sink_waits_hold_up_none(rt: HostRuntime) -> Result<(), F
     // Three bytes and the end of the one that is ready come before the first of the other, for which it then waits.
     assert_eq!(rt; asked.ready.as_slice(), &[1, 1, 1, 1, 0, 0, 0, 0][..]);
     assert_eq!(rt; asked.in_vain.as_slice(), &[0, 0, 0, 0, 0, 0, 0, 0, 0, 0, 99][..]);
+    Ok(())
+}
+
+#[test]
+fn a_full_sink_holds_up_only_what_leads_to_it(rt: HostRuntime) -> Result<(), Fail> {
+    let alloc = rt.alloc();
+    let mut run = written_chains(&rt, alloc, 3)?;
+    let mut asked = answers(alloc, [false; 4]);
+    asked.full[3] = true;
+    for _turn in 0..40 {
+        if asked.in_vain.is_empty() {
+            turns(&rt, alloc, &mut run, 1, &mut asked);
+        }
+    }
+    // It waits when the other source was read to its end, and then that of the full sink, as far as buffers hold.
+    assert_eq!(rt; asked.in_vain.as_slice(), &[99][..]);
+    assert_eq!(rt; asked.ready.as_slice(), &[0, 1, 0, 0, 0, 1, 1, 1][..]);
+    assert_eq!(rt; given(&rt, &run, 2), &[7, 7, 7][..]);
+    assert_eq!(rt; given(&rt, &run, 3), &[][..]);
+    let ended = run.run_with(alloc, &mut NoHelpers, &mut asked, &mut Unwatched);
+    assert!(rt; matches!(ended, Ok(Settled::Done)), "all is read");
+    assert_eq!(rt; given(&rt, &run, 3), &[7, 7, 7][..]);
+    Ok(())
+}
+
+#[test]
+fn a_stop_waits_for_a_full_sink(rt: HostRuntime) -> Result<(), Fail> {
+    let alloc = rt.alloc();
+    let mut run = written_chains(&rt, alloc, 3)?;
+    let mut asked = answers(alloc, [false; 4]);
+    // A read for each sink and what came of it, of which the last is not written yet.
+    turns(&rt, alloc, &mut run, 4, &mut asked);
+    assert_eq!(rt; given(&rt, &run, 3), &[][..]);
+    asked.full[3] = true;
+    let mut due = Vec::new(alloc);
+    due.push((0, Request::Stop))?;
+    let mut stop = Turns { turn: 0, due, answers: Vec::new(alloc) };
+    let ended = run.run_asked(alloc, &mut NoHelpers, &mut asked, &mut stop, &mut Unwatched);
+    assert!(rt; matches!(ended, Ok(Ended::Stopped)), "it was asked to stop");
+    assert_eq!(rt; asked.in_vain.as_slice(), &[99][..]);
+    assert_eq!(rt; given(&rt, &run, 3), &[7][..]);
     Ok(())
 }

@@ -8,6 +8,7 @@ pub mod Reading
 pub mod TakingIn
 pub mod Delivering
 pub mod Moving
+pub mod Running
 pub mod Faulting
 pub mod Noting
 pub mod Awaiting

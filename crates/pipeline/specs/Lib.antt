@@ -9,3 +9,4 @@ pub mod Asking
 pub mod Joining
 pub mod Faults
 pub mod Requests
+pub mod Runs

@@ -9,6 +9,7 @@ use Rattle.items.specs.Items.{type_of}
 use Rattle.raw_items.specs.Values.{all_bytes_of}
 use Rattle.raw_items.specs.Decoding.{HasDecoded}
 use Rattle.byte_io.specs.Ends.{AppendsBeginning}
+use Rattle.streaming.specs.Beside.{is_held}
 use Rattle.streaming.specs.Streaming.{StreamingState, drained, stream_into, tags_into}
 use Rattle.pipeline.specs.declared.end.End.{End}
 use Rattle.pipeline.specs.declared.end.End.TheVariants as ends
@@ -144,6 +145,11 @@ IsDelivered p b (ends.Input i) = ⊤
 
 abbrev pub AreDelivered : {R W B : Type 0} → Network → StreamingState B → List (End R W) → Type 0
 AreDelivered net p es = (b : ℕ) → b < length net.nodes → IsDelivered p b (end_at es b)
+
+-- so were those alone that are not held back
+abbrev pub AreDeliveredBeside : {R W B : Type 0} → List Bool → Network → StreamingState B → List (End R W) → Type 0
+AreDeliveredBeside held net p es = (b : ℕ) → b < length net.nodes → is_held held b ≡ false
+    → IsDelivered p b (end_at es b)
 
 -- an end is a reader of items that is not at its end
 abbrev pub has_more : {R W : Type 0} → End R W → Bool

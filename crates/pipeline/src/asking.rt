@@ -2,8 +2,9 @@
 
 ghost use Rattle.std.specs.Prelude.{◌≡◌, ◌<◌, ◌≤◌, ℕ, length, true, IfNone, IfOk, IfSome};
 ghost use Rattle.flowgraph.specs.Flowgraph.{net_of};
-ghost use Rattle.pipeline.specs.Asking.{Awaits, AwaitsNone, IsNext, led_to, needed_by};
+ghost use Rattle.pipeline.specs.Asking.{Awaits, AwaitsNone, led_to, needed_by};
 ghost use Rattle.pipeline.specs.Pipeline.{Lacks, NoneLacks, end_at};
+ghost use Rattle.pipeline.specs.Runs.{IsNextOf, NothingLacks};
 
 use crate::pipeline::Pipeline;
 use crate::readiness::Readiness;
@@ -13,23 +14,22 @@ use std::io::{Read, Write};
 use stream_model::Role;
 use streaming::BlockNeed;
 
-/// A request waits, and no source is ready.
+/// No source is ready: a request waits, or a wait is over.
 #[derive(Debug, Drop)]
 pub(crate) struct Called;
 
 impl<B: Block, R: Read, W: Write> Pipeline<B, R, W> {
     /// The source to feed next: one whose items a sink lacks, the sinks in turn, or else any that lacks items. If there
-    /// are several, it is one that is ready. If none is ready it waits, for a request too.
+    /// are several, it is one that is ready. If none is ready it waits, for a request too, and the turn is over: a
+    /// writer may have failed meanwhile, which the next flush tells.
     pub(crate) fn next_source<Q: Readiness, C: Requests>(
         &mut self,
         readiness: &mut Q,
         requests: &C,
     ) -> Result<Option<BlockId>, Called>
         ensures same { (self.new.plant ≡ self.old.plant) × (self.new.ends.items ≡ self.old.ends.items) }
-        ensures some { IfOk result (λ next. IfSome next (λ source. IsNext (net_of B.meaning self.new.plant.plant.graph)
-            self.new.plant self.new.ends.items source.0)) }
-        ensures none { IfOk result (λ next. IfNone next (NoneLacks (net_of B.meaning self.new.plant.plant.graph)
-            self.new.plant self.new.ends.items)) }
+        ensures some { IfOk result (λ next. IfSome next (λ source. IsNextOf B.meaning self.new source.0)) }
+        ensures none { IfOk result (λ next. IfNone next (NothingLacks B.meaning self.new)) }
     {
         let blocks = self.plant.graph().len();
         let behind = (self.sink.0 as usize + 1).min(blocks);
@@ -47,6 +47,25 @@ impl<B: Block, R: Read, W: Write> Pipeline<B, R, W> {
             Some(first) => Ok(Some(self.ready_lacking(first, readiness, requests)?)),
             None => Ok(None),
         }
+    }
+
+    /// Like `next_source`, but only a source that is ready, and it does not wait.
+    pub(crate) fn next_ready<Q: Readiness>(&mut self, readiness: &mut Q) -> Option<BlockId>
+        ensures same { (self.new.plant ≡ self.old.plant) × (self.new.ends.items ≡ self.old.ends.items) }
+        ensures some { IfSome result (λ source. IsNextOf B.meaning self.new source.0) }
+    {
+        let blocks = self.plant.graph().len();
+        if self.first_awaiting(0, blocks).is_none() {
+            return self.lacking_ready(readiness);
+        }
+        let behind = (self.sink.0 as usize + 1).min(blocks);
+        if let Some((sink, source)) = self.awaiting_ready(behind, blocks, readiness) {
+            self.sink = sink;
+            return Some(source);
+        }
+        let (sink, source) = self.awaiting_ready(0, behind, readiness)?;
+        self.sink = sink;
+        Some(source)
     }
 
     // The first of the sinks from `from` to below `to` whose waits lead to a source that lacks items, and that source.
@@ -142,7 +161,7 @@ impl<B: Block, R: Read, W: Write> Pipeline<B, R, W> {
     }
 
     // The first sink, in turn from this one on, whose waits lead to a source that lacks items and is ready, and that
-    // source. It waits until there is one, or a request.
+    // source. It waits once if there is none, and no request.
     fn ready_awaiting<Q: Readiness, C: Requests>(
         &self,
         first: (BlockId, BlockId),
@@ -162,19 +181,16 @@ impl<B: Block, R: Read, W: Write> Pipeline<B, R, W> {
         }
         let blocks = self.plant.graph().len();
         let turn = (first.0.0 as usize).min(blocks);
-        for _waits in 0..u64::MAX {
-            if let Some(found) = self.awaiting_ready(turn, blocks, readiness) {
-                return Ok(found);
-            }
-            if let Some(found) = self.awaiting_ready(0, turn, readiness) {
-                return Ok(found);
-            }
-            if requests.are_waiting() {
-                return Err(Called);
-            }
+        if let Some(found) = self.awaiting_ready(turn, blocks, readiness) {
+            return Ok(found);
+        }
+        if let Some(found) = self.awaiting_ready(0, turn, readiness) {
+            return Ok(found);
+        }
+        if !requests.are_waiting() {
             readiness.wait();
         }
-        Ok(first)
+        Err(Called)
     }
 
     // The first of the sinks from `from` to below `to` whose waits lead to a source that lacks items and is ready, and
@@ -203,7 +219,7 @@ impl<B: Block, R: Read, W: Write> Pipeline<B, R, W> {
         None
     }
 
-    // A source that lacks items and is ready: this one if it is. It waits until there is one, or a request.
+    // A source that lacks items and is ready: this one if it is. It waits once if there is none, and no request.
     fn ready_lacking<Q: Readiness, C: Requests>(
         &self,
         first: BlockId,
@@ -218,16 +234,13 @@ impl<B: Block, R: Read, W: Write> Pipeline<B, R, W> {
         if readiness.is_ready(first) {
             return Ok(first);
         }
-        for _waits in 0..u64::MAX {
-            if let Some(found) = self.lacking_ready(readiness) {
-                return Ok(found);
-            }
-            if requests.are_waiting() {
-                return Err(Called);
-            }
+        if let Some(found) = self.lacking_ready(readiness) {
+            return Ok(found);
+        }
+        if !requests.are_waiting() {
             readiness.wait();
         }
-        Ok(first)
+        Err(Called)
     }
 
     // The first source that lacks items, has a reader and is ready.

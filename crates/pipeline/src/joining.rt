@@ -1,6 +1,6 @@
 //! Joins the blocks of a pipeline to readers and writers, before it runs.
 
-ghost use Rattle.std.specs.Prelude.{◌≡◌, ◌<◌, ◌↔◌, Err, IfErr, IfOk, IsOk, IsTrue, OnErr, OnOk, length, replicate, slice_set};
+ghost use Rattle.std.specs.Prelude.{◌≡◌, ◌<◌, ◌↔◌, Err, IfErr, IfOk, IsOk, IsTrue, OnErr, OnOk, false, length, replicate, slice_set};
 ghost use Rattle.stream_model.specs.Network.{node_at};
 ghost use Rattle.flowgraph.specs.Flowgraph.{net_of};
 ghost use Rattle.plant.specs.Answers.{source_type_of};
@@ -32,16 +32,19 @@ impl<B: Block, R: Read + Drop, W: Write + Drop> Pipeline<B, R, W> {
         ensures plant { IfOk result (λ pipeline. pipeline.plant ≡ plant) }
         ensures open { IfOk result (λ pipeline. pipeline.ends.items ≡ replicate (length plant.plant.graph.blocks)
             Open) }
+        ensures full { IfOk result (λ pipeline. pipeline.full.items ≡ replicate (length plant.plant.graph.blocks)
+            false) }
         ensures back { IfErr result (λ refusal. refusal.0 ≡ plant) }
     {
-        let ends = match all_open(alloc, plant.graph().len()) {
-            Ok(ends) => ends,
+        let (ends, full) = match room(alloc, plant.graph().len()) {
+            Ok(room) => room,
             Err(refusal) => return Err((plant, refusal)),
         };
         match Box::new(alloc, [0; PIECE]) {
             Ok(piece) => Ok(Pipeline {
                 plant,
                 ends,
+                full,
                 sink: BlockId(0),
                 piece,
             }),
@@ -77,8 +80,8 @@ impl<B: Block, R: Read + Drop, W: Write + Drop> Pipeline<B, R, W> {
     }
 
     /// Marks the items of a source as the lines of a reader say: each is a mark `@OFFSET:KEY=VALUE`, or `until N` where
-    /// no mark below item N comes any more, in the order of their items. Refusals: `NotJoined` for a block without a reader of items, `Joined` for one with a reader of
-    /// marks, and a lack of memory. Then nothing changes.
+    /// no mark below item N comes any more, in the order of their items. Refusals: `NotJoined` for a block without a
+    /// reader of items, `Joined` for one with a reader of marks, and a lack of memory. Then nothing changes.
     pub fn mark_from(
         &mut self,
         alloc: Global,
@@ -206,6 +209,29 @@ fn is_open<R, W>(end: &End<R, W>) -> bool
         End::Open => true,
         End::Input(_) | End::Output(_) => false,
     }
+}
+
+// What so many blocks are joined to at first, and which of them are full.
+fn room<R: Drop, W: Drop>(
+    alloc: Global,
+    blocks: usize,
+) -> Result<(Vec<End<R, W>>, Vec<bool>), AllocError>
+    ensures open { IfOk result (λ room. room.0.items ≡ replicate blocks Open) }
+    ensures full { IfOk result (λ room. room.1.items ≡ replicate blocks false) }
+{
+    let ends = all_open(alloc, blocks)?;
+    Ok((ends, none_full(alloc, blocks)?))
+}
+
+// So many blocks of which none is full.
+fn none_full(alloc: Global, blocks: usize) -> Result<Vec<bool>, AllocError>
+    ensures { IfOk result (λ full. full.items ≡ replicate blocks false) }
+{
+    let mut full = Vec::with_capacity(alloc, blocks)?;
+    for _blocks in 0..blocks {
+        full.push_reserved(false);
+    }
+    Ok(full)
 }
 
 // So many blocks that are joined to nothing.

@@ -13,6 +13,9 @@
 //! it when the run is done. Do not continue a run that ended by a fault: what was read or drained last may be lost.
 //! Only after a cut item you may, once its source is closed.
 //!
+//! A silent input holds up only what needs its items, and a full output only what leads to it, if a `Readiness` tells
+//! which they are (`run_with`).
+//!
 //! A pipeline answers requests while it runs (`run_asked`, `Requests`): to set a block, to tell how far it is, to close
 //! a source, and to end the run.
 //!
@@ -36,6 +39,8 @@ pub mod pipeline;
 pub mod readiness;
 pub mod requests;
 mod tracked;
+mod turns;
+mod writes;
 
 pub use end::{End, Input, Output};
 pub use fault::PipelineFault;

@@ -100,6 +100,14 @@ impl<C: Drop, R: Drop> ReaderThreads<C, R> {
 }
 
 impl<C: Drop, R: Wait + Drop> ReaderThreads<C, R> {
+    /// Whether a thread has read something for a source that was not taken.
+    pub fn has_read(&self, source: BlockId) -> bool {
+        match self.readings.get(source.0 as usize) {
+            Some(Some(reading)) => reading.is_ready(&self.rt),
+            _ => false,
+        }
+    }
+
     // Whether there is something for a source.
     fn has_some(&self, source: usize) -> bool {
         match self.readings.get(source) {
@@ -112,6 +120,10 @@ impl<C: Drop, R: Wait + Drop> ReaderThreads<C, R> {
 impl<C: Drop, R: Wait + Drop> Readiness for ReaderThreads<C, R> {
     fn is_ready(&mut self, source: BlockId) -> bool {
         self.has_some(source.0 as usize)
+    }
+
+    fn takes(&mut self, _sink: BlockId) -> bool {
+        true
     }
 
     fn wait(&mut self) {

@@ -12,25 +12,25 @@ use Rattle.pipeline.proofs.pipeline.Pipeline.run_asked.Goals as goal
 pub loop-turns-init : goal.loop-turns-init
 loop-turns-init g c = asked_none g.R.Read.remaining g.W.Write.contents g.C.Requests.asked g.C.Requests.answered _ _ _ _
 
-pub returns-in_err-write_all-clause-begins : goal.returns-in_err-write_all-clause-begins
-returns-in_err-write_all-clause-begins g c =
+pub returns-in_err-write_rest-clause-begins : goal.returns-in_err-write_rest-clause-begins
+returns-in_err-write_rest-clause-begins g c =
     let served : GoesOnAsked g.R.Read.remaining g.W.Write.contents g.C.Requests.asked g.C.Requests.answered (net_of g.B.Block.meaning c.args.self.now.plant.plant.graph) (Some ended.Stopped) c.args.requests.now c.serve.new.requests c.args.self.now.plant c.serve.new.self.plant c.args.self.now.ends.items c.serve.new.self.ends.items = (asked_more g.R.Read.remaining g.W.Write.contents g.C.Requests.asked g.C.Requests.answered g.B.Block.meaning (Some ended.Stopped) c.args.requests.now c.loop-turns.requests c.serve.new.requests c.args.self.now.plant c.loop-turns.self.plant c.serve.new.self.plant c.args.self.now.ends.items c.loop-turns.self.ends.items c.serve.new.self.ends.items c.loop-turns.invariant (stopped_by g.R.Read.remaining g.W.Write.contents g.C.Requests.asked g.C.Requests.answered _ _ _ _ _ _ _ c.serve.result c.if-serve.true c.serve.ensures)) in
-    on_err _ (asked_begins g.R.Read.remaining g.W.Write.contents g.C.Requests.asked g.C.Requests.answered g.B.Block.meaning (Some ended.Stopped) c.args.requests.now c.serve.new.requests c.serve.new.requests c.args.self.now.plant c.serve.new.self.plant c.write_all.new.self.plant c.args.self.now.ends.items c.serve.new.self.ends.items c.write_all.new.self.ends.items served c.in_err-write_all.ensures.begins)
+    on_err _ (asked_begins g.R.Read.remaining g.W.Write.contents g.C.Requests.asked g.C.Requests.answered g.B.Block.meaning (Some ended.Stopped) c.args.requests.now c.serve.new.requests c.serve.new.requests c.args.self.now.plant c.serve.new.self.plant c.write_rest.new.self.plant c.args.self.now.ends.items c.serve.new.self.ends.items c.write_rest.new.self.ends.items served c.in_err-write_rest.ensures.begins)
 
-pub returns-in_err-write_all-clause-stream_begins : goal.returns-in_err-write_all-clause-stream_begins
-returns-in_err-write_all-clause-stream_begins g c =
+pub returns-in_err-write_rest-clause-stream_begins : goal.returns-in_err-write_rest-clause-stream_begins
+returns-in_err-write_rest-clause-stream_begins g c =
     let served : GoesOnAsked g.R.Read.remaining g.W.Write.contents g.C.Requests.asked g.C.Requests.answered (net_of g.B.Block.meaning c.args.self.now.plant.plant.graph) (Some ended.Stopped) c.args.requests.now c.serve.new.requests c.args.self.now.plant c.serve.new.self.plant c.args.self.now.ends.items c.serve.new.self.ends.items = (asked_more g.R.Read.remaining g.W.Write.contents g.C.Requests.asked g.C.Requests.answered g.B.Block.meaning (Some ended.Stopped) c.args.requests.now c.loop-turns.requests c.serve.new.requests c.args.self.now.plant c.loop-turns.self.plant c.serve.new.self.plant c.args.self.now.ends.items c.loop-turns.self.ends.items c.serve.new.self.ends.items c.loop-turns.invariant (stopped_by g.R.Read.remaining g.W.Write.contents g.C.Requests.asked g.C.Requests.answered _ _ _ _ _ _ _ c.serve.result c.if-serve.true c.serve.ensures)) in
-    on_err _ (begins_streams g.R.Read.remaining g.W.Write.contents g.C.Requests.asked g.C.Requests.answered (net_of g.B.Block.meaning c.args.self.now.plant.plant.graph) c.args.requests.now c.serve.new.requests c.args.self.now.plant c.write_all.new.self.plant c.args.self.now.ends.items c.write_all.new.self.ends.items (asked_begins g.R.Read.remaining g.W.Write.contents g.C.Requests.asked g.C.Requests.answered g.B.Block.meaning (Some ended.Stopped) c.args.requests.now c.serve.new.requests c.serve.new.requests c.args.self.now.plant c.serve.new.self.plant c.write_all.new.self.plant c.args.self.now.ends.items c.serve.new.self.ends.items c.write_all.new.self.ends.items served c.in_err-write_all.ensures.begins))
+    on_err _ (begins_streams g.R.Read.remaining g.W.Write.contents g.C.Requests.asked g.C.Requests.answered (net_of g.B.Block.meaning c.args.self.now.plant.plant.graph) c.args.requests.now c.serve.new.requests c.args.self.now.plant c.write_rest.new.self.plant c.args.self.now.ends.items c.write_rest.new.self.ends.items (asked_begins g.R.Read.remaining g.W.Write.contents g.C.Requests.asked g.C.Requests.answered g.B.Block.meaning (Some ended.Stopped) c.args.requests.now c.serve.new.requests c.serve.new.requests c.args.self.now.plant c.serve.new.self.plant c.write_rest.new.self.plant c.args.self.now.ends.items c.serve.new.self.ends.items c.write_rest.new.self.ends.items served c.in_err-write_rest.ensures.begins))
 
 pub returns-then-serve-clause-goes : goal.returns-then-serve-clause-goes
 returns-then-serve-clause-goes g c =
     let served : GoesOnAsked g.R.Read.remaining g.W.Write.contents g.C.Requests.asked g.C.Requests.answered (net_of g.B.Block.meaning c.args.self.now.plant.plant.graph) (Some ended.Stopped) c.args.requests.now c.serve.new.requests c.args.self.now.plant c.serve.new.self.plant c.args.self.now.ends.items c.serve.new.self.ends.items = (asked_more g.R.Read.remaining g.W.Write.contents g.C.Requests.asked g.C.Requests.answered g.B.Block.meaning (Some ended.Stopped) c.args.requests.now c.loop-turns.requests c.serve.new.requests c.args.self.now.plant c.loop-turns.self.plant c.serve.new.self.plant c.args.self.now.ends.items c.loop-turns.self.ends.items c.serve.new.self.ends.items c.loop-turns.invariant (stopped_by g.R.Read.remaining g.W.Write.contents g.C.Requests.asked g.C.Requests.answered _ _ _ _ _ _ _ c.serve.result c.if-serve.true c.serve.ensures)) in
-    (asked_rests g.R.Read.remaining g.W.Write.contents g.C.Requests.asked g.C.Requests.answered g.B.Block.meaning c.args.requests.now c.serve.new.requests c.args.self.now.plant c.serve.new.self.plant c.write_all.new.self.plant c.args.self.now.ends.items c.serve.new.self.ends.items c.write_all.new.self.ends.items served c.in_ok-write_all.ensures.goes c.write_all.ensures.same)
+    (asked_rests g.R.Read.remaining g.W.Write.contents g.C.Requests.asked g.C.Requests.answered g.B.Block.meaning c.args.requests.now c.serve.new.requests c.args.self.now.plant c.serve.new.self.plant c.write_rest.new.self.plant c.args.self.now.ends.items c.serve.new.self.ends.items c.write_rest.new.self.ends.items served c.in_ok-write_rest.ensures.goes c.write_rest.ensures.same)
 
 pub returns-then-serve-clause-streams : goal.returns-then-serve-clause-streams
 returns-then-serve-clause-streams g c =
     let served : GoesOnAsked g.R.Read.remaining g.W.Write.contents g.C.Requests.asked g.C.Requests.answered (net_of g.B.Block.meaning c.args.self.now.plant.plant.graph) (Some ended.Stopped) c.args.requests.now c.serve.new.requests c.args.self.now.plant c.serve.new.self.plant c.args.self.now.ends.items c.serve.new.self.ends.items = (asked_more g.R.Read.remaining g.W.Write.contents g.C.Requests.asked g.C.Requests.answered g.B.Block.meaning (Some ended.Stopped) c.args.requests.now c.loop-turns.requests c.serve.new.requests c.args.self.now.plant c.loop-turns.self.plant c.serve.new.self.plant c.args.self.now.ends.items c.loop-turns.self.ends.items c.serve.new.self.ends.items c.loop-turns.invariant (stopped_by g.R.Read.remaining g.W.Write.contents g.C.Requests.asked g.C.Requests.answered _ _ _ _ _ _ _ c.serve.result c.if-serve.true c.serve.ensures)) in
-    goes_streams g.R.Read.remaining g.W.Write.contents g.C.Requests.asked g.C.Requests.answered (net_of g.B.Block.meaning c.args.self.now.plant.plant.graph) c.args.requests.now c.serve.new.requests c.args.self.now.plant c.write_all.new.self.plant c.args.self.now.ends.items c.write_all.new.self.ends.items (Some ended.Stopped) (asked_rests g.R.Read.remaining g.W.Write.contents g.C.Requests.asked g.C.Requests.answered g.B.Block.meaning c.args.requests.now c.serve.new.requests c.args.self.now.plant c.serve.new.self.plant c.write_all.new.self.plant c.args.self.now.ends.items c.serve.new.self.ends.items c.write_all.new.self.ends.items served c.in_ok-write_all.ensures.goes c.write_all.ensures.same)
+    goes_streams g.R.Read.remaining g.W.Write.contents g.C.Requests.asked g.C.Requests.answered (net_of g.B.Block.meaning c.args.self.now.plant.plant.graph) c.args.requests.now c.serve.new.requests c.args.self.now.plant c.write_rest.new.self.plant c.args.self.now.ends.items c.write_rest.new.self.ends.items (Some ended.Stopped) (asked_rests g.R.Read.remaining g.W.Write.contents g.C.Requests.asked g.C.Requests.answered g.B.Block.meaning c.args.requests.now c.serve.new.requests c.args.self.now.plant c.serve.new.self.plant c.write_rest.new.self.plant c.args.self.now.ends.items c.serve.new.self.ends.items c.write_rest.new.self.ends.items served c.in_ok-write_rest.ensures.goes c.write_rest.ensures.same)
 
 pub returns-in_err-settled-clause-begins : goal.returns-in_err-settled-clause-begins
 returns-in_err-settled-clause-begins g c =
