@@ -8,7 +8,7 @@
 
 # The uppermost libraries that the tasks and these files of the program use.
 # shellcheck disable=SC2034  # They are for the scripts that source this.
-memory_libraries=(flow_runs run_stats pipeline helper_threads request_box reader_threads clap diagnostics)
+memory_libraries=(flow_runs run_stats pipeline helper_threads request_box reader_threads writer_threads clap diagnostics)
 
 eighth=${MEMORY_EIGHTH:-$(($(date +%-d) % 8))}
 # The allocation that is refused. The program makes so many others before its own that each of its own comes to be this

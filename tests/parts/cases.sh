@@ -1,9 +1,9 @@
 #!/usr/bin/env bash
 # Calls of the program: those of tests/cases, those of the folders of examples/, and those that pages show, all over one
-# build of it, unproved; and runs between pipes, behind redirections, beside a silent input, on a terminal, and with a
-# trace; runs in slices by the scripts of examples/cluster; and the receiver of examples/receiver. A call is a folder as
-# tests/README.md describes; those of examples and pages are made here. A run is made a second time on one thread, and
-# has to end in the same way.
+# build of it, unproved; and runs between pipes, behind redirections, beside a silent input or a full output, on a
+# terminal, and with a trace; runs in slices by the scripts of examples/cluster; and the receiver of examples/receiver.
+# A call is a folder as tests/README.md describes; those of examples and pages are made here. A run is made a second
+# time on one thread, and has to end in the same way.
 set -euo pipefail
 # shellcheck source=tests/part.sh
 source "$(dirname -- "$(readlink -f -- "${BASH_SOURCE[0]}")")/../part.sh"
@@ -13,6 +13,8 @@ source "$top/tests/parts/shown.sh"
 source "$top/tests/parts/redirected.sh"
 # shellcheck source=tests/parts/silent.sh
 source "$top/tests/parts/silent.sh"
+# shellcheck source=tests/parts/full.sh
+source "$top/tests/parts/full.sh"
 # shellcheck source=tests/parts/clustered.sh
 source "$top/tests/parts/clustered.sh"
 # shellcheck source=tests/parts/sliced.sh
@@ -68,7 +70,7 @@ list() {
         add "$folder" "$1/$folder"
     done
     printf '%s\n' "${pipes[@]}" "${terminals[@]}" "${names[@]}" "${sliced[@]/#/slices/}" "${spoken[@]}" "${traces[@]}" \
-        "${redirected[@]/#/redirected/}" "${silent[@]/#/silent/}" "${clustered[@]/#/cluster/}" \
+        "${redirected[@]/#/redirected/}" "${silent[@]/#/silent/}" "${full[@]/#/full/}" "${clustered[@]/#/cluster/}" \
         "${received[@]/#/receiver/}"
 }
 
@@ -125,7 +127,7 @@ call() {
 }
 
 # is_own CASE: whether the case is a function here
-is_own() { [[ $1 == @(pipes|terminals|names|slices|traces|spoken|redirected|silent)/* ]]; }
+is_own() { [[ $1 == @(pipes|terminals|names|slices|traces|spoken|redirected|silent|full)/* ]]; }
 
 # call_all: as many side by side as there are processors
 call_all() {
@@ -401,6 +403,8 @@ run() {
             judge "$it" redirected "${it#*/}"
         elif [[ $it == silent/* ]]; then
             judge "$it" silent "${it#*/}"
+        elif [[ $it == full/* ]]; then
+            judge "$it" full "${it#*/}"
         elif [[ $it == spoken/* ]]; then
             judge "$it" spoken_in "${it#*/}"
         elif is_own "$it"; then

@@ -32,3 +32,4 @@ mod wakes;
 mod watched;
 mod ways;
 mod wide;
+mod writers;

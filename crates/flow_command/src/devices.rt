@@ -6,7 +6,6 @@ use reader_threads::Inputs;
 use slice_threads::Unread;
 use std::alloc::Global;
 use std::collections::VecDeque;
-use std::fs::File;
 use std::io;
 use std::io::{Read, Seek, SeekFrom, StdinLock, Write};
 
@@ -19,7 +18,7 @@ pub enum Device<S, F> {
 
 pub type Source = Device<StdinLock<'static>, LateFile>;
 
-pub type Writer = Device<StandardOutput, File>;
+pub type Writer = Device<StandardOutput, LateFile>;
 
 /// A writer of a sink's items or tags.
 pub type Target = Limited<Writer>;

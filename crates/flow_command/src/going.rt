@@ -1,17 +1,15 @@
 //! How a run between files goes on to its end.
 
-use crate::devices::Chain;
 use crate::ends::Ends;
 use crate::onlookers::{Alone, Onlookers};
+use crate::pipes::Pipes;
 use crate::rest::Rest;
 use crate::speaking::{Speech, lines_of};
 use crate::stops::{Stop, Stream, stop_of};
 use crate::words::Call;
-use flow_runs::serve::Action;
 use helper_threads::HelperThreads;
 use kinds::Kind;
 use pipeline::{AllReady, Ended, NoRequests, PipelineFault, Readiness, Requests};
-use reader_threads::ReaderThreads;
 use std::alloc::{AllocError, Global};
 use std::sync::Wait;
 use std::thread::Threads;
@@ -27,41 +25,59 @@ pub fn go<R: Threads + Wait + Clock + CpuClock + Copy + Send + Sync + 'static, W
     run: &mut Stream<R>,
     call: &Call<'_>,
     rest: &Rest,
-    readers: Option<ReaderThreads<Chain, R>>,
+    pipes: &mut Option<Pipes<R>>,
     speech: Option<Speech>,
     looks: &mut Onlookers<'_, R, W>,
 ) -> Result<(Ended, Option<Stop>), Stop> {
-    let (alloc, ends) = (rt.alloc(), &call.ends);
-    let ended = match (call.action, readers, speech) {
-        (Action::Live, Some(readers), Some(speech)) => {
-            let mut readers = readers;
-            let ended = run_spoken(threads, alloc, run, ends, rest, &mut readers, speech, looks);
-            readers.finish();
-            ended
-        }
-        (Action::Run(_), readers, _) => run_read(threads, alloc, run, ends, rest, readers, looks),
-        _ => {
-            let mut nobody = NoRequests::new();
-            run_alone(alloc, run, ends, rest, &mut AllReady, &mut nobody, looks)
-        }
-    };
+    let ended = run_on(
+        threads,
+        rt.alloc(),
+        run,
+        &call.ends,
+        rest,
+        pipes,
+        speech,
+        looks,
+    );
     looks.watch.end();
     ended
 }
 
-// The run without requests. Threads read its inputs, if there are such threads.
-fn run_read<R: Threads + Wait + Clock + CpuClock + Copy + Send + Sync + 'static, W: Watch>(
+// The run, with lines if it has some.
+fn run_on<R: Threads + Wait + Clock + CpuClock + Copy + Send + Sync + 'static, W: Watch>(
     threads: R,
     alloc: Global,
     run: &mut Stream<R>,
     ends: &Ends<'_>,
     rest: &Rest,
-    readers: Option<ReaderThreads<Chain, R>>,
+    pipes: &mut Option<Pipes<R>>,
+    speech: Option<Speech>,
+    looks: &mut Onlookers<'_, R, W>,
+) -> Result<(Ended, Option<Stop>), Stop> {
+    let Some(speech) = speech else {
+        return run_piped(threads, alloc, run, ends, rest, pipes, looks);
+    };
+    let Some(pipes) = pipes else {
+        // (a live run has them)
+        return Err(Stop::from(AllocError));
+    };
+    run_spoken(threads, alloc, run, ends, rest, pipes, speech, looks)
+}
+
+// The run without requests. Threads read its inputs and write its outputs, if there are such threads.
+fn run_piped<R: Threads + Wait + Clock + CpuClock + Copy + Send + Sync + 'static, W: Watch>(
+    threads: R,
+    alloc: Global,
+    run: &mut Stream<R>,
+    ends: &Ends<'_>,
+    rest: &Rest,
+    pipes: &mut Option<Pipes<R>>,
     looks: &mut Onlookers<'_, R, W>,
 ) -> Result<(Ended, Option<Stop>), Stop> {
     let mut nobody = NoRequests::new();
-    let Some(readers) = readers else {
-        return run_helped(
+    match pipes {
+        Some(pipes) => run_helped(threads, alloc, run, ends, rest, pipes, &mut nobody, looks),
+        None => run_helped(
             threads,
             alloc,
             run,
@@ -70,21 +86,8 @@ fn run_read<R: Threads + Wait + Clock + CpuClock + Copy + Send + Sync + 'static,
             &mut AllReady,
             &mut nobody,
             looks,
-        );
-    };
-    let mut readers = readers;
-    let ended = run_helped(
-        threads,
-        alloc,
-        run,
-        ends,
-        rest,
-        &mut readers,
-        &mut nobody,
-        looks,
-    );
-    readers.finish();
-    ended
+        ),
+    }
 }
 
 // The run with lines that make requests. When it is over, each answered line has its reply.
@@ -94,22 +97,13 @@ fn run_spoken<R: Threads + Wait + Clock + CpuClock + Copy + Send + Sync + 'stati
     run: &mut Stream<R>,
     ends: &Ends<'_>,
     rest: &Rest,
-    readers: &mut ReaderThreads<Chain, R>,
+    pipes: &mut Pipes<R>,
     speech: Speech,
     looks: &mut Onlookers<'_, R, W>,
 ) -> Result<(Ended, Option<Stop>), Stop> {
     let observer = looks.share_observer()?;
-    let (mut requests, lines) = lines_of(threads, alloc, run, readers, observer, speech)?;
-    let ended = run_helped(
-        threads,
-        alloc,
-        run,
-        ends,
-        rest,
-        readers,
-        &mut requests,
-        looks,
-    );
+    let (mut requests, lines) = lines_of(threads, alloc, run, &pipes.readers, observer, speech)?;
+    let ended = run_helped(threads, alloc, run, ends, rest, pipes, &mut requests, looks);
     drop(requests);
     lines.finish();
     ended

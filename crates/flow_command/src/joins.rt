@@ -4,6 +4,7 @@ use crate::cut::Cut;
 use crate::devices::{Chain, Device, Extent, Source, Target};
 use crate::ends::{Ends, NamedEnd};
 use crate::late_file::LateFile;
+use crate::pipes::{Apart, Pipes, may_be_full};
 use crate::rest::Rest;
 use crate::stops::{Stop, Stream, stop_of, unopened};
 use crate::targets::{Targets, make_outputs};
@@ -12,20 +13,32 @@ use flow_core::raw_input::source_named;
 use flowgraph::BlockId;
 use pipeline::TapePart;
 use raw_items::item_size;
-use reader_threads::{ApartReader, ReaderThreads};
+use reader_threads::ApartReader;
 use std::alloc::{AllocError, Global};
 use std::fs;
 use std::os::unix::fs::FileTypeExt;
 use std::sync::Wait;
 use std::thread::Threads;
+use writer_threads::{ApartWriter, Lane};
 
-/// When the run opens a pipe that it reads.
+/// When the run opens a pipe.
 #[derive(Clone, Copy, Debug, PartialEq, Eq)]
 pub enum PipesOpen {
-    /// With the other inputs: a pipe that no program has opened to write holds up the run.
+    /// With the other ends: a pipe whose other side no program has opened holds up the run.
     AtOnce,
-    /// At its first read.
-    AtFirstRead,
+    /// At its first read, or its first write or flush.
+    AtFirstUse,
+}
+
+impl PipesOpen {
+    // Late if they have threads.
+    fn of(are_apart: bool) -> PipesOpen {
+        if are_apart {
+            PipesOpen::AtFirstUse
+        } else {
+            PipesOpen::AtOnce
+        }
+    }
 }
 
 /// What a run reads and writes, by block.
@@ -37,17 +50,19 @@ pub struct Opened {
 }
 
 impl Opened {
-    /// Opens what the words name, the inputs, those of marks, and then the outputs.
+    /// Opens what the words name: the inputs, those of marks, and then the outputs. Pipes with a thread are opened
+    /// late.
     pub fn of_words<R: Drop>(
         rt: &HostRuntime,
         run: &Stream<R>,
         ends: &Ends<'_>,
         cut: &Cut,
-        pipes: PipesOpen,
+        apart: Apart,
     ) -> Result<Opened, Stop> {
+        let pipes = PipesOpen::of(apart.inputs);
         let tapes = open_inputs(rt, run, ends, cut, pipes)?;
         let marks = open_marks(rt, run, ends, pipes)?;
-        let targets = make_outputs(rt, run, ends, cut)?;
+        let targets = make_outputs(rt, run, ends, cut, PipesOpen::of(apart.outputs))?;
         Ok(Opened {
             tapes,
             marks,
@@ -92,13 +107,13 @@ fn open_inputs<R: Drop>(
     Ok(chains)
 }
 
-/// Joins each source to its inputs. If there are reader threads, one reads for each source that may be silent.
+/// Joins each source to its inputs. If there are threads, one reads for each source that may be silent.
 pub fn join_inputs<R: Threads + Wait + Copy + Send + 'static>(
     alloc: Global,
     run: &mut Stream<R>,
     ends: &Ends<'_>,
     chains: Vec<Option<Chain>>,
-    readers: &mut Option<ReaderThreads<Chain, R>>,
+    pipes: &mut Option<Pipes<R>>,
 ) -> Result<(), Stop> {
     let mut block = 0u32;
     for chain in chains {
@@ -107,9 +122,9 @@ pub fn join_inputs<R: Threads + Wait + Copy + Send + 'static>(
         let Some(chain) = chain else {
             continue;
         };
-        let reader = match readers {
-            Some(readers) if chain.may_be_silent() => readers.start(alloc, source, chain)?,
-            _ => ApartReader::Here(chain),
+        let reader = match pipes {
+            Some(pipes) => pipes.reader(alloc, source, chain)?,
+            None => ApartReader::Here(chain),
         };
         if let Err(fault) = run.read_from(alloc, source, ends.order, reader) {
             return Err(stop_of(run, ends, fault));
@@ -180,55 +195,112 @@ fn add_input(
 
 /// A sink that keeps its items and tags until the run is over. The tags then go to the file of this number.
 #[derive(Drop)]
-pub struct Kept {
+pub struct Kept<R: Drop> {
     pub sink: BlockId,
     pub number: usize,
-    pub target: Target,
+    pub target: ApartWriter<Target, R>,
 }
 
-/// Joins each sink that has an output of items to it, and returns the others.
-pub fn join_outputs<R: Wait + Drop>(
-    alloc: Global,
+/// Joins each sink that has an output of items to it, and returns the others. If there are threads, one writes each
+/// output that may wait.
+pub fn join_outputs<R: Threads + Wait + Copy + Send + 'static>(
+    rt: &HostRuntime,
     run: &mut Stream<R>,
     ends: &Ends<'_>,
     rest: &Rest,
     targets: Vec<Option<Targets>>,
-) -> Result<Vec<Kept>, Stop> {
-    let mut kept = Vec::new(alloc);
+    pipes: &mut Option<Pipes<R>>,
+) -> Result<Vec<Kept<R>>, Stop> {
+    let mut kept = Vec::new(rt.alloc());
     let mut block = 0u32;
     for slot in targets {
         let sink = BlockId(block);
         block = block.saturating_add(1);
-        let Some(
-            Targets {
-                items,
-                tags,
-                tags_number,
-                ..
-            },
-        ) = slot
-        else {
+        let Some(targets) = slot else {
             continue;
         };
+        let number = targets.tags_number;
+        let (items, tags) = writers_of(rt, ends, sink, targets, pipes)?;
         match (items, tags) {
             (None, None) => {}
             (None, Some(target)) => {
                 kept.reserve(1)?;
                 kept.push_reserved(Kept {
                     sink,
-                    number: tags_number,
+                    number,
                     target,
                 });
             }
             (items, tags) => {
                 let part = rest.part(sink);
-                if let Err(fault) = run.write_part(alloc, sink, part, ends.order, items, tags) {
+                if let Err(fault) = run.write_part(
+                    rt.alloc(),
+                    sink,
+                    part,
+                    ends.order,
+                    items,
+                    tags,
+                ) {
                     return Err(stop_of(run, ends, fault));
                 }
             }
         }
     }
     Ok(kept)
+}
+
+// The writers of a sink: of its items, and of its tags.
+fn writers_of<R: Threads + Wait + Copy + Send + 'static>(
+    rt: &HostRuntime,
+    ends: &Ends<'_>,
+    sink: BlockId,
+    targets: Targets,
+    pipes: &mut Option<Pipes<R>>,
+) -> Result<
+    (
+        Option<ApartWriter<Target, R>>,
+        Option<ApartWriter<Target, R>>,
+    ),
+    AllocError,
+> {
+    let Targets {
+        items,
+        tags,
+        number,
+        tags_number,
+    } = targets;
+    let items = match items {
+        Some(target) => {
+            let end = ends.outputs.get(number);
+            Some(writer_at(rt, sink, Lane::Items, target, end, pipes)?)
+        }
+        None => None,
+    };
+    let tags = match tags {
+        Some(target) => {
+            let end = ends.tags.get(tags_number);
+            Some(writer_at(rt, sink, Lane::Tags, target, end, pipes)?)
+        }
+        None => None,
+    };
+    Ok((items, tags))
+}
+
+// The writer at an end.
+fn writer_at<R: Threads + Wait + Copy + Send + 'static>(
+    rt: &HostRuntime,
+    sink: BlockId,
+    lane: Lane,
+    target: Target,
+    end: Option<&NamedEnd<'_>>,
+    pipes: &mut Option<Pipes<R>>,
+) -> Result<ApartWriter<Target, R>, AllocError> {
+    match (pipes, end) {
+        (Some(pipes), Some(end)) if may_be_full(rt, end) => {
+            pipes.writer(rt.alloc(), sink, lane, target)
+        }
+        _ => Ok(ApartWriter::Here(target)),
+    }
 }
 
 /// So many empty places.
@@ -250,7 +322,7 @@ fn open(
     if end.is_standard() {
         return Ok(Device::Standard(rt.reader()));
     }
-    if pipes == PipesOpen::AtFirstRead && is_pipe(rt, end.path) {
+    if pipes == PipesOpen::AtFirstUse && is_pipe(rt, end.path) {
         let path = String::from_str(rt.alloc(), end.path)?;
         return Ok(Device::File(LateFile::Pipe(*rt, path)));
     }
@@ -260,7 +332,8 @@ fn open(
     }
 }
 
-fn is_pipe(rt: &HostRuntime, path: &str) -> bool {
+/// Whether a path leads to a named pipe.
+pub fn is_pipe(rt: &HostRuntime, path: &str) -> bool {
     match fs::metadata(rt, path) {
         Ok(found) => found.file_type().is_fifo(),
         Err(_) => false,

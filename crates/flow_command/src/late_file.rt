@@ -1,11 +1,11 @@
-//! Files that are opened when they are first read.
+//! Files that are opened when they are first used.
 
 use std::fs::File;
-use std::io::Read;
+use std::io::{Read, Write};
 use std::{fs, io};
 
-/// A file, or a pipe of this path that is not opened yet. Opening a pipe waits until a program opens it to write, so it
-/// is left to the first read.
+/// A file, or a pipe of this path that is not opened yet. Opening a pipe waits until a program opens its other side, so
+/// it is left to the first read, or to the first write or flush.
 #[derive(Drop)]
 pub enum LateFile {
     Open(File),
@@ -35,5 +35,27 @@ impl Read for LateFile {
         let read = file.read(buf);
         *self = LateFile::Open(file);
         read
+    }
+}
+
+impl Write for LateFile {
+    fn write(&mut self, buf: &[u8]) -> io::Result<usize> {
+        let opened = match self {
+            LateFile::Open(file) => return file.write(buf),
+            LateFile::Pipe(rt, path) => fs::create(rt, path.as_str())?,
+        };
+        let mut file = opened;
+        let written = file.write(buf);
+        *self = LateFile::Open(file);
+        written
+    }
+
+    fn flush(&mut self) -> io::Result<()> {
+        let opened = match self {
+            LateFile::Open(file) => return file.flush(),
+            LateFile::Pipe(rt, path) => fs::create(rt, path.as_str())?,
+        };
+        *self = LateFile::Open(opened);
+        Ok(())
     }
 }

@@ -27,6 +27,7 @@ mod overwriting;
 mod pace;
 mod periodic;
 mod pieces;
+mod pipes;
 mod raw;
 mod refusing;
 mod rest;
@@ -43,6 +44,7 @@ mod terminal;
 mod tracing;
 mod uncut;
 mod version;
+mod waits;
 mod words;
 
 use crate::closed_streams::hold_closed_streams;

@@ -1,21 +1,21 @@
 //! Runs between files and pipes of raw items, read and written as the items come.
 
 use crate::cut::Cut;
-use crate::devices::Chain;
 use crate::ends::Ends;
 use crate::going::go;
 use crate::gone_reader::tell_gone;
-use crate::joins::{Kept, Opened, PipesOpen, join_inputs, join_marks, join_outputs};
+use crate::joins::{Kept, Opened, join_inputs, join_marks, join_outputs};
 use crate::later::later_plant;
 use crate::onlookers::Onlookers;
 use crate::overwriting::ReportStream;
 use crate::pieces::run_pieces;
+use crate::pipes::{Apart, Pipes};
 use crate::refusing::{buffered, shown_name};
 use crate::rest::Rest;
 use crate::slice_report::part_text;
 use crate::slicing::cut_of;
 use crate::speaking::{Speech, speech_for};
-use crate::stops::{Stop, Stream, explain, found_in, unread_name};
+use crate::stops::{Stop, Stream, explain, found_in, stop_of, unread_name};
 use crate::stretch::Stretch;
 use crate::team::{Team, team_for};
 use crate::uncut::{Uncut, refuse_cut};
@@ -34,9 +34,9 @@ use flow_runs::serve::{Action, Verbosity};
 use flowgraph::BlockId;
 use kinds::Kind;
 use pipeline::{End, Ended, Pipeline, Settled};
-use reader_threads::ReaderThreads;
 use script_text::push_tag_lines;
 use std::alloc::{AllocError, Global};
+use std::io;
 use std::io::Write;
 use std::sync::Wait;
 use std::thread::Threads;
@@ -144,11 +144,29 @@ fn stream<R: Threads + Wait + Clock + CpuClock + Copy + Send + Sync + 'static, W
     looks: &mut Onlookers<'_, R, W>,
 ) -> Result<Option<Stream<R>>, Stop> {
     let mut run = run;
-    let mut readers = readers_for(threads, rt.alloc(), call, run.plant.graph().len())?;
-    let (rest, kept) = join(threads, rt, call, &mut run, part, &mut readers, looks.watch)?;
+    let apart = Apart::of(rt, call, part.team.is_some());
+    let mut pipes = pipes_for(threads, rt, call, &run, apart)?;
+    let (rest, kept) = join(
+        threads,
+        rt,
+        call,
+        &mut run,
+        part,
+        apart,
+        &mut pipes,
+        looks.watch,
+    )?;
     close_others(&mut run);
-    let (ended, stop) = go(threads, rt, &mut run, call, &rest, readers, speech, looks)?;
-    write_kept(rt, &run, kept)?;
+    let ended = match go(
+        threads, rt, &mut run, call, &rest, &mut pipes, speech, looks,
+    ) {
+        Ok(ended) => match write_kept(rt, &run, kept) {
+            Ok(()) => Ok(ended),
+            Err(stop) => Err(stop),
+        },
+        Err(stop) => Err(stop),
+    };
+    let (ended, stop) = written_out(pipes, &run, &call.ends, ended)?;
     tell(rt, &run, call, &part.cut, &rest, report, ended)?;
     match (stop, ended) {
         (Some(stop), _) => Err(stop),
@@ -157,20 +175,35 @@ fn stream<R: Threads + Wait + Clock + CpuClock + Copy + Send + Sync + 'static, W
     }
 }
 
-// The threads that read inputs that may be silent. A run of several sources has them, if it may have threads, so that
-// no input holds up the others. A live run has them, so that none holds up an answer.
-fn readers_for<R: Threads + Wait + Copy + Send + 'static>(
+// The threads of a run, if it has any.
+fn pipes_for<R: Threads + Wait + Copy + Send + 'static>(
     threads: R,
-    alloc: Global,
+    rt: &HostRuntime,
     call: &Call<'_>,
-    blocks: usize,
-) -> Result<Option<ReaderThreads<Chain, R>>, AllocError> {
-    match call.action {
-        Action::Run(_) if call.ends.feed_several() => {
-            Ok(Some(ReaderThreads::new(threads, alloc, blocks)?))
-        }
-        Action::Live => Ok(Some(ReaderThreads::new(threads, alloc, blocks)?)),
-        _ => Ok(None),
+    run: &Stream<R>,
+    apart: Apart,
+) -> Result<Option<Pipes<R>>, AllocError> {
+    if apart.inputs {
+        Ok(Some(Pipes::new(threads, rt, call, run, apart)?))
+    } else {
+        Ok(None)
+    }
+}
+
+// Waits until all is written, and ends the threads. If the run went well so far, it fails by what was not written.
+fn written_out<R: Threads + Wait + Copy + Send + 'static, T: Drop>(
+    pipes: Option<Pipes<R>>,
+    run: &Stream<R>,
+    ends: &Ends<'_>,
+    ended: Result<T, Stop>,
+) -> Result<T, Stop> {
+    let written = match pipes {
+        Some(pipes) => pipes.finish(),
+        None => Ok(()),
+    };
+    match (ended, written) {
+        (Ok(_), Err(fault)) => Err(stop_of(run, ends, fault)),
+        (ended, _) => ended,
     }
 }
 
@@ -182,16 +215,12 @@ fn join<R: Threads + Wait + Clock + Copy + Send + Sync + 'static, W: Watch>(
     call: &Call<'_>,
     run: &mut Stream<R>,
     part: &Part<'_>,
-    readers: &mut Option<ReaderThreads<Chain, R>>,
+    apart: Apart,
+    pipes: &mut Option<Pipes<R>>,
     watch: &mut W,
-) -> Result<(Rest, Vec<Kept>), Stop> {
+) -> Result<(Rest, Vec<Kept<R>>), Stop> {
     let ends = &call.ends;
-    let pipes = if readers.is_some() {
-        PipesOpen::AtFirstRead
-    } else {
-        PipesOpen::AtOnce
-    };
-    let mut opened = Opened::of_words(rt, run, ends, &part.cut, pipes)?;
+    let mut opened = Opened::of_words(rt, run, ends, &part.cut, apart)?;
     let rest = match &part.team {
         Some(team) => run_pieces(
             threads,
@@ -214,9 +243,9 @@ fn join<R: Threads + Wait + Clock + Copy + Send + Sync + 'static, W: Watch>(
     if let Some(later) = later_plant(rt.alloc(), part.file, run.plant.graph(), rest.first())? {
         *run = run_of(rt.alloc(), later)?;
     }
-    join_inputs(rt.alloc(), run, ends, tapes, readers)?;
+    join_inputs(rt.alloc(), run, ends, tapes, pipes)?;
     join_marks(rt.alloc(), run, ends, &part.cut, &rest, marks)?;
-    let kept = join_outputs(rt.alloc(), run, ends, &rest, targets)?;
+    let kept = join_outputs(rt, run, ends, &rest, targets, pipes)?;
     Ok((rest, kept))
 }
 
@@ -249,7 +278,11 @@ fn close_others<R: Drop>(run: &mut Stream<R>) {
 }
 
 // Writes the tags of sinks whose items were kept.
-fn write_kept<R: Drop>(rt: &HostRuntime, run: &Stream<R>, kept: Vec<Kept>) -> Result<(), Stop> {
+fn write_kept<R: Wait + Drop>(
+    rt: &HostRuntime,
+    run: &Stream<R>,
+    kept: Vec<Kept<R>>,
+) -> Result<(), Stop> {
     let mut lines = Vec::new(rt.alloc());
     for Kept {
         sink,
@@ -262,7 +295,7 @@ fn write_kept<R: Drop>(rt: &HostRuntime, run: &Stream<R>, kept: Vec<Kept>) -> Re
         };
         lines.clear();
         push_tag_lines(&mut lines, &piece.tags)?;
-        if let Err(error) = write_whole(&mut target, &lines) {
+        if let Err(error) = write_flushed(&mut target, &lines) {
             return Err(Stop::Raw {
                 fault: RawFault::End(EndPlace::Tags(number), EndFault::Write),
                 reason: Some(error),
@@ -270,6 +303,12 @@ fn write_kept<R: Drop>(rt: &HostRuntime, run: &Stream<R>, kept: Vec<Kept>) -> Re
         }
     }
     Ok(())
+}
+
+// (the flush opens a pipe that nothing was written to)
+fn write_flushed<W: Write>(target: &mut W, bytes: &[u8]) -> io::Result<()> {
+    write_whole(target, bytes)?;
+    target.flush()
 }
 
 // Tells how the run ended.

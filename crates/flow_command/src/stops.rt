@@ -15,9 +15,10 @@ use reader_threads::ApartReader;
 use std::alloc::AllocError;
 use std::io::{Error, ErrorKind};
 use threads::RunError;
+use writer_threads::ApartWriter;
 
 /// A run between files.
-pub type Stream<R> = Pipeline<Kind, ApartReader<Chain, R>, Target>;
+pub type Stream<R> = Pipeline<Kind, ApartReader<Chain, R>, ApartWriter<Target, R>>;
 
 /// Why a run stops.
 #[derive(Drop)]

@@ -3,7 +3,8 @@
 use crate::cut::Cut;
 use crate::devices::{Device, StandardOutput, Target, Writer};
 use crate::ends::{Ends, NamedEnd};
-use crate::joins::slots;
+use crate::joins::{PipesOpen, is_pipe, slots};
+use crate::late_file::LateFile;
 use crate::lengths::size_at;
 use crate::limited::Limited;
 use crate::stops::{Stop, Stream, unopened};
@@ -56,6 +57,7 @@ pub fn make_outputs<R: Drop>(
     run: &Stream<R>,
     ends: &Ends<'_>,
     cut: &Cut,
+    pipes: PipesOpen,
 ) -> Result<Vec<Option<Targets>>, Stop> {
     test_names(run.plant.graph(), ends)?;
     let mut targets = slots::<Targets>(rt.alloc(), run.plant.graph().len())?;
@@ -66,7 +68,7 @@ pub fn make_outputs<R: Drop>(
         let size = size_at(run.plant.graph(), sink);
         let writer = match written.held {
             Some(held) => resume(rt, end, place, held.items.saturating_mul(size))?,
-            None => create(rt, end, place)?,
+            None => create(rt, end, place, pipes)?,
         };
         let target = Limited::new(writer, written.most.saturating_mul(size));
         if let Some(slot) = targets.get_mut(sink.0 as usize) {
@@ -78,7 +80,7 @@ pub fn make_outputs<R: Drop>(
             });
         }
     }
-    add_tags(rt, run, ends, cut, &mut targets)?;
+    add_tags(rt, run, ends, cut, pipes, &mut targets)?;
     Ok(targets)
 }
 
@@ -88,6 +90,7 @@ fn add_tags<R: Drop>(
     run: &Stream<R>,
     ends: &Ends<'_>,
     cut: &Cut,
+    pipes: PipesOpen,
     targets: &mut [Option<Targets>],
 ) -> Result<(), Stop> {
     for (number, end) in ends.tags.iter().enumerate() {
@@ -95,7 +98,7 @@ fn add_tags<R: Drop>(
         let sink = sink_named(run.plant.graph(), place, end.block.as_bytes())?;
         let writer = match cut.written(sink).held {
             Some(held) => resume(rt, end, place, held.tag_bytes)?,
-            None => create(rt, end, place)?,
+            None => create(rt, end, place, pipes)?,
         };
         let target = Limited::new(writer, u64::MAX);
         if let Some(slot) = targets.get_mut(sink.0 as usize) {
@@ -131,12 +134,21 @@ fn test_names(graph: &Valid<Kind>, ends: &Ends<'_>) -> Result<(), RawFault> {
     Ok(())
 }
 
-fn create(rt: &HostRuntime, end: &NamedEnd<'_>, place: EndPlace) -> Result<Writer, Stop> {
+fn create(
+    rt: &HostRuntime,
+    end: &NamedEnd<'_>,
+    place: EndPlace,
+    pipes: PipesOpen,
+) -> Result<Writer, Stop> {
     if end.is_standard() {
         return Ok(Device::Standard(StandardOutput(*rt)));
     }
+    if pipes == PipesOpen::AtFirstUse && is_pipe(rt, end.path) {
+        let path = String::from_str(rt.alloc(), end.path)?;
+        return Ok(Device::File(LateFile::Pipe(*rt, path)));
+    }
     match fs::create(rt, end.path) {
-        Ok(file) => Ok(Device::File(file)),
+        Ok(file) => Ok(Device::File(LateFile::Open(file))),
         Err(error) => Err(unopened(error, place, EndFault::Write)),
     }
 }
@@ -149,7 +161,7 @@ fn resume(
     bytes: u64,
 ) -> Result<Writer, Stop> {
     match reopened(rt, end.path, bytes) {
-        Ok(file) => Ok(Device::File(file)),
+        Ok(file) => Ok(Device::File(LateFile::Open(file))),
         Err(error) => Err(unopened(error, place, EndFault::Write)),
     }
 }

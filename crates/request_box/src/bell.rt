@@ -1,6 +1,7 @@
 //! Wakes a thread that waits for several things at once.
 
-use std::sync::{Condvar, Mutex, Wait};
+use std::sync::{Condvar, CondvarTimeouts, Mutex, Wait};
+use std::time::{Clock, Duration};
 
 /// A bell that threads ring when something has come: a request, or what one of several readers gave. It counts rings,
 /// so a ring between a look and a wait is not missed.
@@ -41,6 +42,15 @@ impl Bell {
             }
             rings = self.rung.wait(rt, rings);
         }
+        *rings
+    }
+
+    /// Waits like `wait`, but not longer than about this. It returns the same number if the time is up.
+    pub fn wait_for<R: Wait + Clock>(&self, rt: &R, heard: u64, most: Duration) -> u64 {
+        let rings = self.rings.lock(rt);
+        let (rings, _timed_out) = self
+            .rung
+            .wait_timeout_while(rt, rings, most, |rings| { *rings == heard });
         *rings
     }
 }
