@@ -22,6 +22,8 @@ pub struct Shape {
     pub kept: bool,
     /// How many items each buffer holds.
     pub capacity: u32,
+    /// How often a block fires in a step at most; once if that is 0.
+    pub most: u32,
     /// How many items are fed.
     pub items: usize,
     /// On each item whose number is a multiple of this lies a tag.

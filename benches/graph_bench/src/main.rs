@@ -3,6 +3,7 @@
 
 mod feeds;
 mod graphs;
+mod once;
 mod plain;
 mod races;
 mod small;
@@ -20,10 +21,20 @@ fn main(rt: HostRuntime) -> io::Result<ExitCode> {
     match words.as_slice() {
         [] | [_] => small::print_small(&rt)?,
         [_, word] if word.as_str() == "measure" => table::print_table(&rt)?,
-        _ => {
-            eprintln!(rt; "usage: graph_bench [measure]")?;
-            return Ok(ExitCode::from(BAD_WORDS));
+        [_, word, item, adders, sink, capacity, most, items] if word.as_str() == "once" => {
+            let Some(shape) = once::shape_of(item, adders, sink, capacity, most, items) else {
+                return bad_words(&rt);
+            };
+            once::run_once(&rt, shape)?;
         }
+        _ => return bad_words(&rt),
     }
     Ok(ExitCode::SUCCESS)
+}
+
+fn bad_words(rt: &HostRuntime) -> io::Result<ExitCode> {
+    eprintln!(rt;
+        "usage: graph_bench [measure | once byte|short|int ADDERS null|kept CAPACITY MOST ITEMS]"
+    )?;
+    Ok(ExitCode::from(BAD_WORDS))
 }

@@ -11,9 +11,6 @@ use std::time::Instant;
 // Of so many runs the best one counts.
 const RUNS: u32 = 5;
 
-// A block fires as often as items and room let it.
-const MOST_FIRINGS: u32 = u32::MAX;
-
 /// How many thousand items a second: through each block of the graph, through a loop that adds 1, and through a copy.
 #[derive(Clone, Copy)]
 pub struct Rates {
@@ -63,7 +60,7 @@ fn graph_time(rt: &HostRuntime, shape: Shape) -> io::Result<u128> {
         return Err(io::Error::from(Fault::Run));
     }
     let start = Instant::now(rt)?;
-    let settled = plant.settle(rt.alloc(), MOST_FIRINGS)?;
+    let settled = plant.settle(rt.alloc(), shape.most.max(1))?;
     let time = start.elapsed(rt)?.as_nanos();
     match settled {
         Settled::Done => Ok(time),

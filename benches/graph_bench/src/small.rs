@@ -12,6 +12,7 @@ const SMALL: Shape = Shape {
     chains: 1,
     kept: true,
     capacity: 3,
+    most: 2,
     items: 5,
     tag_every: Some(2),
     turned: false,
@@ -47,7 +48,7 @@ pub fn print_small(rt: &(impl Print + AllocGlobal)) -> io::Result<()> {
         if !plant.idle() {
             return Err(io::Error::from(Fault::Run));
         }
-        let settled = plant.settle(rt.alloc(), 2)?;
+        let settled = plant.settle(rt.alloc(), shape.most.max(1))?;
         let word = match settled {
             Settled::Done => "done",
             Settled::Quiet => "quiet",

@@ -12,6 +12,7 @@ const PLAIN: Shape = Shape {
     chains: 1,
     kept: false,
     capacity: 4096,
+    most: u32::MAX,
     items: 1_000_000,
     tag_every: None,
     turned: false,
@@ -20,7 +21,7 @@ const PLAIN: Shape = Shape {
 /// Times each shape and prints its row.
 pub fn print_table(rt: &HostRuntime) -> io::Result<()> {
     println!(rt;
-        "item  adders chains sink capacity    items tags first      graph     plain      copy  of plain"
+        "item  adders chains sink capacity   most    items tags first      graph     plain      copy  of plain"
     )?;
     for item in [ItemType::Byte, ItemType::Int] {
         let plain = Shape { item, ..PLAIN };
@@ -62,6 +63,14 @@ pub fn print_table(rt: &HostRuntime) -> io::Result<()> {
         for capacity in [64, 65_536] {
             print_row(rt, Shape { capacity, ..plain })?;
         }
+        print_row(
+            rt,
+            Shape {
+                capacity: 65_536,
+                most: 4_096,
+                ..plain
+            },
+        )?;
         for items in [10_000, 100_000, 10_000_000] {
             print_row(rt, Shape { items, ..plain })?;
         }
@@ -116,8 +125,9 @@ fn print_row(rt: &HostRuntime, shape: Shape) -> io::Result<()> {
         items,
         ..
     } = shape;
+    let most = shape.most.min(capacity);
     let (graph, plain, copy) = (graph / 1000, plain / 1000, copy / 1000);
     println!(rt;
-        "{item:<5} {adders:>6} {chains:>6} {sink:<4} {capacity:>8} {items:>8} {tags:<4} {first:<6} {graph:>9} {plain:>9} {copy:>9} {whole:>6}.{part:02}"
+        "{item:<5} {adders:>6} {chains:>6} {sink:<4} {capacity:>8} {most:>6} {items:>8} {tags:<4} {first:<6} {graph:>9} {plain:>9} {copy:>9} {whole:>6}.{part:02}"
     )
 }
